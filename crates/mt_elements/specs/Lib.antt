@@ -1,0 +1,5 @@
+pub mod Parts
+pub mod Chain
+pub mod Lexis
+pub mod Form
+pub mod Shape
