@@ -1,1 +1,3 @@
+pub mod Copy
 pub mod Files
+pub mod State

@@ -1,0 +1,95 @@
+-- Laws of what calls do to files, by which a run of calls is told as one.
+use Rattle.std.proofs.Common.{◌≡◌, ◌≢◌, ℕ, ◌+◌, ◌-◌, ◌<◌, ◌≤◌, ◌^◌, List, [], ◌++◌, length, Option, Some, None, refl, sym, ap, ◌∙◌, append_assoc, arith, length-append}
+use Rattle.std.proofs.lemmas.List.{append-nil}
+use Rattle.mt_io.specs.Files.{Takes, IsAtEnd, Gains, Rose, IsSame, IsSameBut, NeverFell}
+use Rattle.mt_io.specs.Copy.{GainsFront, TakesSome, IsWhole, IsLongerThan}
+
+-- no gain at all
+pub gains_nothing : (before after : Option (List ℕ)) → after ≡ before → Gains before [] after
+gains_nothing None after same = tt
+gains_nothing (Some old) after same = same ∙ ap (λ (l : List ℕ). Some l) (sym (append-nil old))
+
+-- two gains are one gain
+pub gains_twice : (before middle after : Option (List ℕ)) (first second : List ℕ) → Gains before first middle → Gains middle second after → Gains before (first ++ second) after
+gains_twice None middle after first second one two = tt
+gains_twice (Some old) None after first second one two = cc
+gains_twice (Some old) (Some mid) after first second one two = grind (arith, append_assoc)
+
+-- a gain of some bytes, and of a front of others, is a gain of a front of both together
+pub gains_then_front : (before middle after : Option (List ℕ)) (first second : List ℕ) → Gains before first middle → GainsFront middle second after → GainsFront before (first ++ second) after
+gains_then_front before middle after first second one two =
+    let whole : first ++ second ≡ (first ++ two.0) ++ two.1 = ap (λ (l : List ℕ). first ++ l) two.2 ∙ grind (arith, append_assoc) in
+    (first ++ two.0, two.1, whole, gains_twice before middle after first two.0 one two.3)
+
+-- what is gained as a whole is gained as a front
+pub gains_front : (before after : Option (List ℕ)) (piece : List ℕ) → Gains before piece after → GainsFront before piece after
+gains_front before after piece gained = (piece, [], sym (append-nil piece), gained)
+
+-- nothing was taken
+pub takes_nothing : (before after : Option (List ℕ)) → after ≡ before → Takes before [] after
+takes_nothing None after same = tt
+takes_nothing (Some all) after same = (all, same, refl)
+
+-- two takes are one take
+pub takes_twice : (before middle after : Option (List ℕ)) (first second : List ℕ) → Takes before first middle → Takes middle second after → Takes before (first ++ second) after
+takes_twice None middle after first second one two = tt
+takes_twice (Some all) None after first second one two = cc (one.1)
+takes_twice (Some all) (Some mid) after first second one two =
+    let is_rest : mid ≡ one.0 = cc (one.1) in
+    (two.0, two.1, one.2 ∙ ap (λ (l : List ℕ). first ++ l) (sym is_rest ∙ two.2) ∙ grind (arith, append_assoc))
+
+-- what was taken to the end is the whole
+pub takes_to_end : (before after : Option (List ℕ)) (bytes : List ℕ) → Takes before bytes after → IsAtEnd after → IsWhole before bytes after
+takes_to_end None after bytes taken at_end = tt
+takes_to_end (Some all) None bytes taken at_end = cc (taken.1)
+takes_to_end (Some all) (Some left) bytes taken at_end =
+    let none_left : taken.0 ≡ [] = cc (taken.1, at_end) in
+    (sym (taken.2 ∙ ap (λ (l : List ℕ). bytes ++ l) none_left ∙ append-nil bytes), ap (λ (l : List ℕ). Some l) at_end)
+
+-- more than a limit was taken
+pub takes_more_than : (limit : ℕ) (before after : Option (List ℕ)) (bytes : List ℕ) → limit < length bytes → Takes before bytes after → IsLongerThan limit before
+takes_more_than limit None after bytes more taken = tt
+takes_more_than limit (Some all) after bytes more taken = omega (arith, ap length taken.2, length-append bytes taken.0)
+
+-- what is the whole was taken
+pub takes_whole : (before after : Option (List ℕ)) (text : List ℕ) → IsWhole before text after → Takes before text after
+takes_whole None after text whole = tt
+takes_whole (Some all) after text whole = ([], whole.1, sym whole.0 ∙ sym (append-nil text))
+
+-- a count rose, and did not fall later
+pub rose_then : (before middle after : ℕ) → Rose before middle → middle ≤ after → Rose before after
+rose_then before middle after rose kept = omega arith
+
+-- a count did not fall, and rose later
+pub then_rose : (before middle after : ℕ) → before ≤ middle → Rose middle after → Rose before after
+then_rose before middle after kept rose = omega arith
+
+-- the same of the counts of all names
+pub rose_then_never_fell : (before middle after : List ℕ → ℕ) (name : List ℕ) → Rose (before name) (middle name) → NeverFell middle after → Rose (before name) (after name)
+rose_then_never_fell before middle after name rose kept = rose_then (before name) (middle name) (after name) rose (kept name)
+
+pub never_fell_then_rose : (before middle after : List ℕ → ℕ) (name : List ℕ) → NeverFell before middle → Rose (middle name) (after name) → Rose (before name) (after name)
+never_fell_then_rose before middle after name kept rose = then_rose (before name) (middle name) (after name) (kept name) rose
+
+-- NeverFell, IsSame and IsSameBut hold of no step, and of two steps where they hold of each
+pub never_fell_refl : (counts : List ℕ → ℕ) → NeverFell counts counts
+never_fell_refl counts name = omega arith
+
+pub never_fell_twice : (old middle new : List ℕ → ℕ) → NeverFell old middle → NeverFell middle new → NeverFell old new
+never_fell_twice old middle new one two name = let a = one name in let b = two name in omega arith
+
+pub same_refl : {X : Type 0} (what : List ℕ → X) → IsSame what what
+same_refl what name = refl
+
+pub same_twice : {X : Type 0} (old middle new : List ℕ → X) → IsSame old middle → IsSame middle new → IsSame old new
+same_twice old middle new one two name = two name ∙ one name
+
+pub same_but_refl : {X : Type 0} (name : List ℕ) (what : List ℕ → X) → IsSameBut name what what
+same_but_refl name what other apart = refl
+
+pub same_but_twice : {X : Type 0} (name : List ℕ) (old middle new : List ℕ → X) → IsSameBut name old middle → IsSameBut name middle new → IsSameBut name old new
+same_but_twice name old middle new one two other apart = two other apart ∙ one other apart
+
+-- what changed of no name changed of no other name
+pub same_but : {X : Type 0} (name : List ℕ) (old new : List ℕ → X) → IsSame old new → IsSameBut name old new
+same_but name old new same other apart = same other
