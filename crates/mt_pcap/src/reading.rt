@@ -98,6 +98,21 @@ fn records_of(alloc: Global, form: Form, bytes: &[u8]) -> Result<WholeCapture, A
     Ok(WholeCapture { records, end: None })
 }
 
+/// What the bytes are as a capture.
+#[tactic(auto, unfolding(crate::specs::Capture::capture_of))]
+fn read(alloc: Global, bytes: &[u8]) -> Result<WholeCapture, AllocError>
+    ensures records { IfOk result (λ c. c.records.items ≡ (capture_of bytes.now).records) }
+    ensures end { IfOk result (λ c. c.end ≡ (capture_of bytes.now).end) }
+{
+    match header_of(bytes) {
+        Ok(form) => records_of(alloc, form, bytes),
+        Err(fault) => Ok(WholeCapture {
+            records: Vec::new(alloc),
+            end: Some(fault),
+        }),
+    }
+}
+
 /// Reads a whole capture: a header with any of the four magic numbers, then records. The low 16
 /// bits of the link type must be 1; version, zone, sigfigs, snaplen and the original lengths are not
 /// looked at. At each record the faults are looked for in this order: its head is cut; its fraction
@@ -112,11 +127,5 @@ pub fn whole(alloc: Global, bytes: &[u8]) -> Result<WholeCapture, AllocError>
     ensures few { IfOk result (λ c. 16 * length c.records.items ≤ length bytes.now) }
     ensures named { IfOk result (λ c. IsOfBytes c.end) }
 {
-    match header_of(bytes) {
-        Ok(form) => records_of(alloc, form, bytes),
-        Err(fault) => Ok(WholeCapture {
-            records: Vec::new(alloc),
-            end: Some(fault),
-        }),
-    }
+    read(alloc, bytes)
 }
