@@ -1,0 +1,5 @@
+pub mod Format
+pub mod Capture
+pub mod Text
+pub mod Laws
+pub mod Facts

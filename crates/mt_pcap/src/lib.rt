@@ -1,0 +1,16 @@
+//! Captures: the classic libpcap file format, version 2.4, with Ethernet frames.
+#![tactic(auto)]
+
+mod fault;
+mod form;
+mod laws;
+mod reading;
+mod writing;
+
+pub use fault::PcapFault;
+pub use laws::{capture_reads_back, capture_stands, capture_stands_alone};
+pub use reading::{whole, WholeCapture};
+pub use writing::{header, record_head};
+
+#[cfg(test)]
+mod tests;
