@@ -28,7 +28,7 @@ took_writable form bytes x fits t =
     let of_stamp : x.0.0 / second ≡ seconds form bytes = ap (λ (n : ℕ). n / second) stamp ∙ div-mul-add (seconds form bytes) second (fraction form bytes) t.early in
     (rw of_stamp (number-lt form.order bytes fits), rw t.len t.fits)
 
-rest_bytes : (form : Form) (bytes : List ℕ) (x : (ℕ × List ℕ) × List ℕ) → IsBytes bytes → Took form bytes x → IsBytes x.1
+pub rest_bytes : (form : Form) (bytes : List ℕ) (x : (ℕ × List ℕ) × List ℕ) → IsBytes bytes → Took form bytes x → IsBytes x.1
 rest_bytes form bytes x fits t =
     subst IsBytes (sym (ap (λ (y : (ℕ × List ℕ) × List ℕ). y.1) t.is)) (IsBytes-drop (captured form bytes) (drop 16 bytes) (IsBytes-drop 16 bytes fits))
 

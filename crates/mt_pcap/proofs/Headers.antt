@@ -56,9 +56,42 @@ header_case bytes =
 -- ---- magic numbers
 
 -- a form is told by its magic number, whatever follows
+magic_of : (order : Order) (resolution : Resolution) (rest : List ℕ) → form_of (four order (magic resolution) ++ rest) ≡ Some (record { order = order; resolution = resolution })
+unfolding form_of form_in resolution_of number four magic
+magic_of Big Microseconds rest = refl
+magic_of Big Nanoseconds rest = refl
+magic_of Little Microseconds rest = refl
+magic_of Little Nanoseconds rest = refl
+
 pub form_of-magic : (form : Form) (rest : List ℕ) → form_of (four form.order (magic form.resolution) ++ rest) ≡ Some form
-form_of-magic form rest = ?
+form_of-magic form rest = magic_of form.order form.resolution rest
 
 -- what is told by a magic number begins with it
+chosen : (n : ℕ) (resolution : Resolution) (micro nano : Bool) → eqb n 0xa1b2c3d4 ≡ micro → eqb n 0xa1b23c4d ≡ nano → cond micro (Some Microseconds) (cond nano (Some Nanoseconds) None) ≡ Some resolution → n ≡ magic resolution
+unfolding magic
+chosen n resolution true nano is _ e =
+    let same : Microseconds ≡ resolution = cc in
+    rw (← same) (eqb-true n 0xa1b2c3d4 is)
+chosen n resolution false true _ is e =
+    let same : Nanoseconds ≡ resolution = cc in
+    rw (← same) (eqb-true n 0xa1b23c4d is)
+chosen n resolution false false _ _ e = absurd cc
+
+resolution_is : (n : ℕ) (resolution : Resolution) → resolution_of n ≡ Some resolution → n ≡ magic resolution
+unfolding resolution_of
+resolution_is n resolution some = chosen n resolution (eqb n 0xa1b2c3d4) (eqb n 0xa1b23c4d) refl refl some
+
+form_in_is : (order : Order) (bytes : List ℕ) (form : Form) (o : Option Resolution) → resolution_of (number order bytes) ≡ o → form_with order o ≡ Some form → number form.order bytes ≡ magic form.resolution
+form_in_is order bytes form None none e = absurd cc
+form_in_is order bytes form (Some resolution) some e =
+    let same : record { order = order; resolution = resolution } ≡ form = cc in
+    rw (← same) (resolution_is (number order bytes) resolution some)
+
+or_else_is : (bytes : List ℕ) (form : Form) (o : Option Form) → form_in Little bytes ≡ o → or_else o (form_in Big bytes) ≡ Some form → number form.order bytes ≡ magic form.resolution
+unfolding form_in
+or_else_is bytes form None none e = form_in_is Big bytes form (resolution_of (number Big bytes)) refl e
+or_else_is bytes form (Some first) some e = form_in_is Little bytes form (resolution_of (number Little bytes)) refl (some ∙ e)
+
 pub magic_is : (bytes : List ℕ) (form : Form) → form_of bytes ≡ Some form → number form.order bytes ≡ magic form.resolution
-magic_is bytes form some = ?
+unfolding form_of
+magic_is bytes form some = or_else_is bytes form (form_in Little bytes) refl some

@@ -13,6 +13,7 @@ pub record IsOfRecords (bytes : List ℕ) (capture : Capture) : Type 0 where
   pub header : Header
   pub written : List Record
   pub rest : List ℕ
+  pub fits : header.link < 2 ^ 32
   pub ethernet : link_type header ≡ 1
   pub proper : AllByRecursion (IsRecord header.form) written
   pub parts : bytes ≡ header_bytes header ++ (flat_map (record_bytes header.form) written ++ rest)
@@ -23,6 +24,7 @@ pub record IsOfRecords (bytes : List ℕ) (capture : Capture) : Type 0 where
 pub record IsOfOtherLink (bytes : List ℕ) (capture : Capture) : Type 0 where
   pub header : Header
   pub after : List ℕ
+  pub fits : header.link < 2 ^ 32
   pub other : link_type header ≢ 1
   pub parts : bytes ≡ header_bytes header ++ after
   pub records : capture.records ≡ []
@@ -43,7 +45,8 @@ CaptureStands = (bytes : List ℕ) → All (λ b. b < 256) bytes → StandsFor b
 
 -- and for nothing else
 abbrev pub CaptureStandsAlone : Type 0
-CaptureStandsAlone = (bytes : List ℕ) (capture : Capture) → StandsFor bytes capture → capture ≡ capture_of bytes
+CaptureStandsAlone =
+    (bytes : List ℕ) (capture : Capture) → All (λ b. b < 256) bytes → StandsFor bytes capture → capture ≡ capture_of bytes
 
 -- a time whose seconds fit 32 bits, and a frame that is not too long
 abbrev pub IsWritable : ℕ × List ℕ → Type 0
@@ -51,4 +54,6 @@ IsWritable r = (r.0 / second < 2 ^ 32) × (length r.1 ≤ longest)
 
 -- what is written is read back, with no fault
 abbrev pub CaptureReadsBack : Type 0
-CaptureReadsBack = (records : List (ℕ × List ℕ)) → All IsWritable records → capture_of (capture_text records) ≡ record { records = records; end = None }
+CaptureReadsBack =
+    (records : List (ℕ × List ℕ)) → All IsWritable records
+    → capture_of (capture_text records) ≡ record { records = records; end = None }
