@@ -23,7 +23,7 @@ impl Model for Chain {
 
     ghost view = { λ c. record { kinds = c.kinds.items; outputs = map (λ v. v.items) c.outputs.items; devices = c.devices.items; entries = c.entries } };
 
-    ghost invariant = { λ c. length c.kinds.items < 2 ^ 32 };
+    ghost invariant = { λ c. (length c.kinds.items < 2 ^ 32) × (length c.devices.items < 2 ^ 32) };
 }
 
 impl Chain {
@@ -35,7 +35,8 @@ impl Chain {
         devices: Vec<Text>,
         entries: u32,
     ) -> Chain
-        requires { length kinds.items < 2 ^ 32 }
+        requires few_elements { length kinds.items < 2 ^ 32 }
+        requires few_devices { length devices.items < 2 ^ 32 }
         ensures { result ≡ record { kinds = kinds.items; outputs = map (λ v. v.items) outputs.items; devices = devices.items; entries = entries } }
     {
         Chain {
@@ -71,7 +72,8 @@ impl Chain {
 
     /// The names of the devices, those of device 1 first.
     pub fn devices(&self) -> &[Text]
-        ensures { result.now ≡ self.now.devices }
+        ensures value { result.now ≡ self.now.devices }
+        ensures few { length result.now < 2 ^ 32 }
     {
         &self.devices
     }

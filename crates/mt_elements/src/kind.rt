@@ -1,5 +1,5 @@
 //! What an element is, with its arguments read.
-ghost use Rattle.std.specs.Prelude.{◌≡◌, map};
+ghost use Rattle.std.specs.Prelude.{◌≡◌, ◌<◌, ◌^◌, length, map, slice_get, Some};
 
 use std::marker::Model;
 
@@ -18,27 +18,38 @@ pub struct Patterns {
 }
 
 impl Model for Patterns {
-    ghost use Rattle.std.specs.Prelude.{List, map};
+    ghost use Rattle.std.specs.Prelude.{List, map, length, ◌<◌, ◌^◌};
     ghost use Rattle.mt_elements.specs.declared.kind.Clause.{Clause};
 
     ghost Value = { List (List Clause) };
 
     ghost view = { λ p. map (λ v. v.items) p.list.items };
+
+    ghost invariant = { λ p. length p.list.items < 2 ^ 32 };
 }
 
 impl Patterns {
     /// The patterns with these clauses.
     pub fn new(list: Vec<Vec<Clause>>) -> Patterns
+        requires { length list.items < 2 ^ 32 }
         ensures { result ≡ map (λ v. v.items) list.items }
     {
         Patterns { list }
     }
 
-    /// The clauses of each pattern.
-    pub fn list(&self) -> &[Vec<Clause>]
-        ensures { map (λ v. v.items) result.now ≡ self.now }
+    /// How many patterns there are.
+    pub fn count(&self) -> u32
+        ensures { result ≡ length self.now }
     {
-        &self.list
+        self.list.len() as u32
+    }
+
+    /// The clauses of a pattern, from 0.
+    pub fn clauses(&self, number: u32) -> &[Clause]
+        requires { number < length self.now }
+        ensures { slice_get self.now number ≡ Some result.now }
+    {
+        &self.list[number as usize]
     }
 }
 

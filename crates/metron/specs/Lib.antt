@@ -1,0 +1,6 @@
+pub mod Outcome
+pub mod Order
+pub mod Command
+pub mod Fates
+pub mod Inputs
+pub mod Serving

@@ -1,0 +1,17 @@
+//! Runs a capture through a chain of network functions.
+#![tactic(auto)]
+
+mod command;
+mod fates;
+mod inputs;
+mod outcome;
+mod run;
+mod serve;
+
+pub use outcome::{Fault, FileId, Outcome};
+
+use std::process::ExitCode;
+
+fn main(rt: HostRuntime) -> ExitCode {
+    ExitCode::SUCCESS
+}
