@@ -1,6 +1,10 @@
 -- Laws of what calls do to files, by which a run of calls is told as one.
-use Rattle.std.proofs.Common.{◌≡◌, ◌≢◌, ℕ, ◌+◌, ◌-◌, ◌<◌, ◌≤◌, ◌^◌, List, [], ◌++◌, length, Option, Some, None, refl, sym, ap, ◌∙◌, append_assoc, arith, length-append}
+use Rattle.std.proofs.Common.{◌≡◌, ◌≢◌, ℕ, ◌+◌, ◌-◌, ◌<◌, ◌≤◌, ◌^◌, List, [], ◌++◌, length, Option, Some, None, inl, inr, refl, sym, ap, ◌∙◌, subst, append_assoc, arith, length-append}
+use Rattle.std.specs.Str.{bytes_eq}
+use Rattle.std.proofs.lemmas.Bool.{cases_Bool}
+use Rattle.std.proofs.lemmas.Bool.Decides.{not_from_Decides}
 use Rattle.std.proofs.lemmas.List.{append-nil}
+use Rattle.std.proofs.lemmas.Slice.Eq.{bytes_eq-Decides}
 use Rattle.mt_io.specs.Files.{Takes, IsAtEnd, Gains, Rose, IsSame, IsSameBut, NeverFell}
 use Rattle.mt_io.specs.Copy.{GainsFront, TakesSome, IsWhole, IsLongerThan}
 
@@ -93,3 +97,21 @@ same_but_twice name old middle new one two other apart = two other apart ∙ one
 -- what changed of no name changed of no other name
 pub same_but : {X : Type 0} (name : List ℕ) (old new : List ℕ → X) → IsSame old new → IsSameBut name old new
 same_but name old new same other apart = same other
+
+-- what holds of one name, and of every other, holds of each
+pub at_each_name : (P : List ℕ → Type 0) (name other : List ℕ) → P name → (other ≢ name → P other) → P other
+at_each_name P name other here elsewhere =
+    let decides = bytes_eq-Decides other name in
+    elim (cases_Bool (bytes_eq other name)) [
+      | inl same ↦ subst P (sym (decides.0 same)) here
+      | inr apart ↦ elsewhere (not_from_Decides _ decides apart)
+    ]
+
+-- what changed of no other name, and not of this one, changed of none
+pub same_from_but : {X : Type 0} (name : List ℕ) (old new : List ℕ → X) → new name ≡ old name → IsSameBut name old new → IsSame old new
+same_from_but name old new here elsewhere other = at_each_name (λ n. new n ≡ old n) name other here (elsewhere other)
+
+-- a count of no other name changed, and this one's did not fall
+pub never_fell_from_but : (name : List ℕ) (old new : List ℕ → ℕ) → old name ≤ new name → IsSameBut name old new → NeverFell old new
+never_fell_from_but name old new here elsewhere other =
+    at_each_name (λ n. old n ≤ new n) name other here (λ apart. let same = elsewhere other apart in omega arith)

@@ -1,3 +1,4 @@
 pub mod Copy
 pub mod Files
+pub mod Memory
 pub mod State

@@ -1,5 +1,5 @@
 //! One file in memory.
-ghost use Rattle.std.specs.Prelude.{◌≡◌, ◌++◌, Bool, true, false, length, take, drop, min, IfOk, OnOk, OnErr};
+ghost use Rattle.std.specs.Prelude.{◌≡◌, ◌≤◌, ◌++◌, Bool, true, false, length, take, drop, min, IfOk, OnOk, OnErr};
 
 use crate::Failed;
 use std::alloc::{AllocError, Global};
@@ -85,6 +85,8 @@ impl Entry {
         ensures fails { OnErr result (fails_read self.old ≡ true) }
         ensures failed { OnErr result (self.new ≡ after_failed_read self.old) }
         ensures no_bytes { OnErr result (buf.new ≡ buf.old) }
+        ensures written { self.new.written ≡ self.old.written }
+        ensures read_faults { self.old.read_faults ≤ self.new.read_faults }
     {
         self.reads = self.reads.saturating_add(1);
         if !self.is_held || self.failing_reads.contains(&self.reads) {
@@ -103,6 +105,8 @@ impl Entry {
         ensures count { IfOk result (λ n. n ≡ length piece.now) }
         ensures after { OnOk result (self.new ≡ after_write piece.now self.old) }
         ensures failed { OnErr result (self.new ≡ after_failed_write self.old) }
+        ensures left { self.new.left ≡ self.old.left }
+        ensures write_faults { self.old.write_faults ≤ self.new.write_faults }
     {
         self.writes = self.writes.saturating_add(1);
         if self.failing_writes.contains(&self.writes)
