@@ -6,13 +6,17 @@ ghost use Rattle.mt_pcap.specs.Facts.{IsOfBytes};
 use std::alloc::{AllocError, Global};
 
 use crate::fault::PcapFault;
-use crate::form::{form_of, Form};
+use crate::form::{form_of, Form, LONGEST, SECOND};
 use mt_packet::Frame;
 
+/// The length of a capture's header.
 const HEADER_LENGTH: usize = 24;
+
+/// The length of a record's head, which stands before the bytes of its frame.
 const HEAD_LENGTH: usize = 16;
-const SECOND: u64 = 1_000_000_000;
-const LONGEST: u32 = 262_144;
+
+/// The link type of Ethernet.
+const ETHERNET: u32 = 1;
 
 /// What a file is as a capture.
 #[derive(Drop)]
@@ -38,7 +42,7 @@ fn header_of(bytes: &[u8]) -> Result<Form, PcapFault>
         Some(form) => form,
     };
     let link = form.order.number(&bytes[20..]) % 65_536;
-    if link == 1 {
+    if link == ETHERNET {
         Ok(form)
     } else {
         Err(PcapFault::WrongLink(link as u16))
