@@ -3,11 +3,10 @@ ghost use Rattle.std.specs.Prelude.{◌≡◌, ℕ, ◌<◌, ◌≤◌, ◌/◌,
 ghost use Rattle.mt_pcap.specs.Capture.{capture_of, header_of, record_at, all_records};
 ghost use Rattle.mt_pcap.specs.Facts.{IsOfBytes};
 
-use std::alloc::{AllocError, Global};
-
 use crate::fault::PcapFault;
-use crate::form::{form_of, Form, LONGEST, SECOND};
+use crate::form::{Form, LONGEST, SECOND, form_of};
 use mt_packet::Frame;
+use std::alloc::{AllocError, Global};
 
 /// The length of a capture's header.
 const HEADER_LENGTH: usize = 24;

@@ -2,9 +2,8 @@
 ghost use Rattle.std.specs.Prelude.{◌≡◌, ◌<◌, ◌/◌, ◌^◌};
 ghost use Rattle.mt_pcap.specs.Text.{header_text, record_head_text};
 
-use byteorder::{ByteOrder, LittleEndian};
-
 use crate::form::{LONGEST, NANOSECONDS_MAGIC, SECOND};
+use byteorder::{ByteOrder, LittleEndian};
 
 /// The header of a capture: version 2.4, little-endian, times in nanoseconds, zone 0, sigfigs 0,
 /// snaplen 262,144, link type 1, Ethernet.
