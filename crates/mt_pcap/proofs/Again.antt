@@ -72,7 +72,7 @@ records_again form offset (r ∷ written) rest end all looks =
     let e : flat_map (record_bytes form) (r ∷ written) ++ rest ≡ record_bytes form r ++ behind = append_assoc (record_bytes form r) (flat_map (record_bytes form) written) rest in
     let next = records-next form offset (record_bytes form r ++ behind) (told form r, behind) (record_again form offset r behind all.0) in
     let at : offset + length (flat_map (record_bytes form) (r ∷ written)) ≡ offset + 16 + length r.frame + length (flat_map (record_bytes form) written)
-        = omega (arith, length-append (record_bytes form r) (flat_map (record_bytes form) written), length-append (head_bytes form.order r.head) r.frame, length-head_bytes form.order r.head) in
+    = omega (arith, length-append (record_bytes form r) (flat_map (record_bytes form) written), length-append (head_bytes form.order r.head) r.frame, length-head_bytes form.order r.head) in
     let others = records_again form (offset + 16 + length r.frame) written rest end all.1 (subst (λ (n : ℕ). EndsAs form n rest end) at looks) in
     rw e (next ∙ rw others refl)
 
@@ -88,7 +88,7 @@ of_records bytes capture is =
     let link : link_in h.form bytes ≡ h.link % 65536 = ap (λ (l : List ℕ). number h.form.order l % 65536) (ap (drop 20) is.parts ∙ rh.link) ∙ ap (λ (n : ℕ). n % 65536) (number-four h.form.order h.link behind is.fits) in
     let read = at_ethernet h.form bytes w.0 w.1 (link ∙ is.ethernet) in
     let at : length bytes - length is.rest ≡ 24 + length (flat_map (record_bytes h.form) is.written)
-        = omega (arith, ap length rest, length-drop 24 bytes, w.0, length-append (flat_map (record_bytes h.form) is.written) is.rest) in
+    = omega (arith, ap length rest, length-drop 24 bytes, w.0, length-append (flat_map (record_bytes h.form) is.written) is.rest) in
     let found = records_again h.form 24 is.written is.rest capture.end is.proper (subst (λ (n : ℕ). EndsAs h.form n is.rest capture.end) at is.end) in
     let whole : capture_of bytes ≡ record { records = map (told h.form) is.written; end = capture.end } = capture-records bytes h.form read ∙ ap (all_records h.form 24) rest ∙ found in
     ap (λ (rs : List (ℕ × List ℕ)). record { records = rs; end = capture.end }) is.records ∙ sym whole
@@ -141,18 +141,20 @@ unfolding own_record nanoseconds_in
 own_fit [] all = tt
 own_fit (r ∷ records) all =
     let w = All-head IsWritable r records all in
-    let below = mod-lt r.0 {m = second} (omega arith) in
-    (record {
-      fits = record { seconds = w.0; fraction = omega (arith, below); captured = omega (arith, w.1); original = omega (arith, w.1) };
-      proper = (omega (arith, below), w.1);
-      whole = refl;
-    }, own_fit records (All-tail IsWritable r records all))
+    let below = mod-lt r.0 {m = second} (omega arith) in (
+      record {
+        fits = record { seconds = w.0; fraction = omega (arith, below); captured = omega (arith, w.1); original = omega (arith, w.1) };
+        proper = (omega (arith, below), w.1);
+        whole = refl;
+      },
+      own_fit records (All-tail IsWritable r records all),
+    )
 
 pub reads_back : (records : List (ℕ × List ℕ)) → All IsWritable records → capture_of (capture_text records) ≡ record { records = records; end = None }
 unfolding capture_text header_text
 reads_back records all =
     let parts : capture_text records ≡ header_bytes own_header ++ (flat_map (record_bytes own_form) (map own_record records) ++ [])
-        = ap (λ (l : List ℕ). header_bytes own_header ++ l) (sym (own_bytes records) ∙ sym (append-nil (flat_map (record_bytes own_form) (map own_record records)))) in
+    = ap (λ (l : List ℕ). header_bytes own_header ++ l) (sym (own_bytes records) ∙ sym (append-nil (flat_map (record_bytes own_form) (map own_record records)))) in
     sym (of_records (capture_text records) (record { records = records; end = None }) (record {
       header = own_header;
       written = map own_record records;

@@ -6,3 +6,4 @@ pub mod Loop
 pub mod Facts
 pub mod Stands
 pub mod Again
+pub mod Rows

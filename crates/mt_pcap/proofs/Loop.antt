@@ -29,16 +29,16 @@ goes_on form found total rest stamp frame after all le read so_far =
     let t = took form (total - length rest) rest ((stamp, frame), after) read in
     let at : total - length rest + 16 + length frame ≡ total - length after = omega (arith, t.parts) in
     let next : all_records form (total - length rest) rest ≡ record { records = (stamp, frame) ∷ (all_records form (total - length after) after).records; end = (all_records form (total - length after) after).end }
-        = rw (← at) (records-next form (total - length rest) rest ((stamp, frame), after) read) in
+    = rw (← at) (records-next form (total - length rest) rest ((stamp, frame), after) read) in
     let moved : with_front (found ++ (stamp, frame) ∷ []) (all_records form (total - length after) after) ≡ with_front found (all_records form (total - length rest) rest)
-        = rw next (ap (λ (rs : List (ℕ × List ℕ)). record { records = rs; end = (all_records form (total - length after) after).end }) (simp append_assoc)) in
+    = rw next (ap (λ (rs : List (ℕ × List ℕ)). record { records = rs; end = (all_records form (total - length after) after).end }) (simp append_assoc)) in
     (omega (arith, t.parts), omega (arith, t.parts), moved ∙ so_far)
 
 pub stops : (form : Form) (found : List (ℕ × List ℕ)) (offset : ℕ) (rest : List ℕ) (fault : PcapFault) (all : Capture) → 0 < length rest → record_at form offset rest ≡ Err fault
     → with_front found (all_records form offset rest) ≡ all → (found ≡ all.records) × (Some fault ≡ all.end)
 stops form found offset rest fault all some read so_far =
     let now : with_front found (all_records form offset rest) ≡ record { records = found; end = Some fault }
-        = rw (records-fault form offset rest fault some read) (ap (λ (rs : List (ℕ × List ℕ)). record { records = rs; end = Some fault }) (append-nil found)) in
+    = rw (records-fault form offset rest fault some read) (ap (λ (rs : List (ℕ × List ℕ)). record { records = rs; end = Some fault }) (append-nil found)) in
     let e : record { records = found; end = Some fault } ≡ all = sym now ∙ so_far in
     (ap (λ (c : Capture). c.records) e, ap (λ (c : Capture). c.end) e)
 
@@ -46,6 +46,6 @@ pub is_done : (form : Form) (found : List (ℕ × List ℕ)) (offset : ℕ) (res
     → with_front found (all_records form offset rest) ≡ all → (found ≡ all.records) × (None ≡ all.end)
 is_done form found offset rest all none so_far =
     let now : with_front found (all_records form offset rest) ≡ record { records = found; end = None }
-        = rw (nil_from_length rest none, records-end form offset) (ap (λ (rs : List (ℕ × List ℕ)). record { records = rs; end = None }) (append-nil found)) in
+    = rw (nil_from_length rest none, records-end form offset) (ap (λ (rs : List (ℕ × List ℕ)). record { records = rs; end = None }) (append-nil found)) in
     let e : record { records = found; end = None } ≡ all = sym now ∙ so_far in
     (ap (λ (c : Capture). c.records) e, ap (λ (c : Capture). c.end) e)

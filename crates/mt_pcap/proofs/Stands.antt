@@ -34,9 +34,9 @@ fault_ends form offset bytes fault fits some read =
     elim (case_of form offset bytes) [
       | cut_head short e ↦ let is : fault ≡ Torn offset = cc in rw is (refl, inl (some, short))
       | bad long why e ↦ let is : fault ≡ BadRecord offset = cc in
-        rw is (refl, record { head = head_of form.order bytes; after = drop 16 bytes; fits = head_of-fits form.order bytes fits; improper = why; parts = head_split form.order bytes fits long })
+          rw is (refl, record { head = head_of form.order bytes; after = drop 16 bytes; fits = head_of-fits form.order bytes fits; improper = why; parts = head_split form.order bytes fits long })
       | cut_data long early within short e ↦ let is : fault ≡ Torn offset = cc in
-        rw is (refl, inr (record { head = head_of form.order bytes; frame = drop 16 bytes; fits = head_of-fits form.order bytes fits; proper = (early, within); cut = short; parts = head_split form.order bytes fits long }))
+          rw is (refl, inr (record { head = head_of form.order bytes; frame = drop 16 bytes; fits = head_of-fits form.order bytes fits; proper = (early, within); cut = short; parts = head_split form.order bytes fits long }))
       | whole long early within enough e ↦ absurd cc
     ]
 

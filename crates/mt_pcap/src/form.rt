@@ -5,6 +5,18 @@ ghost use Rattle.mt_pcap.specs.Capture.{resolution_of, form_in, form_of};
 
 use byteorder::{BigEndian, ByteOrder, LittleEndian};
 
+/// A second, in nanoseconds.
+pub const SECOND: u64 = 1_000_000_000;
+
+/// The most bytes of a frame that a record has.
+pub const LONGEST: u32 = 262_144;
+
+/// The number that a capture with fractions in microseconds begins with.
+const MICROSECONDS_MAGIC: u32 = 0xa1b2_c3d4;
+
+/// The number that a capture with fractions in nanoseconds begins with.
+pub const NANOSECONDS_MAGIC: u32 = 0xa1b2_3c4d;
+
 /// The order of the bytes in each number of a capture.
 #[derive(Clone, Copy)]
 pub enum Order {
@@ -59,10 +71,10 @@ impl Resolution {
 fn resolution_of(magic: u32) -> Option<Resolution>
     ensures { result ≡ resolution_of magic }
 {
-    if magic == 0xa1b2_c3d4 {
+    if magic == MICROSECONDS_MAGIC {
         return Some(Resolution::Microseconds);
     }
-    if magic == 0xa1b2_3c4d {
+    if magic == NANOSECONDS_MAGIC {
         return Some(Resolution::Nanoseconds);
     }
     None

@@ -9,7 +9,7 @@ mod writing;
 
 pub use fault::PcapFault;
 pub use laws::{capture_reads_back, capture_stands, capture_stands_alone};
-pub use reading::{whole, WholeCapture};
+pub use reading::{WholeCapture, whole};
 pub use writing::{header, record_head};
 
 #[cfg(test)]

@@ -3,16 +3,19 @@ ghost use Rattle.std.specs.Prelude.{◌≡◌, ℕ, ◌<◌, ◌≤◌, ◌/◌,
 ghost use Rattle.mt_pcap.specs.Capture.{capture_of, header_of, record_at, all_records};
 ghost use Rattle.mt_pcap.specs.Facts.{IsOfBytes};
 
+use crate::fault::PcapFault;
+use crate::form::{Form, LONGEST, SECOND, form_of};
+use mt_packet::Frame;
 use std::alloc::{AllocError, Global};
 
-use crate::fault::PcapFault;
-use crate::form::{form_of, Form};
-use mt_packet::Frame;
-
+/// The length of a capture's header.
 const HEADER_LENGTH: usize = 24;
+
+/// The length of a record's head, which stands before the bytes of its frame.
 const HEAD_LENGTH: usize = 16;
-const SECOND: u64 = 1_000_000_000;
-const LONGEST: u32 = 262_144;
+
+/// The link type of Ethernet.
+const ETHERNET: u32 = 1;
 
 /// What a file is as a capture.
 #[derive(Drop)]
@@ -38,7 +41,7 @@ fn header_of(bytes: &[u8]) -> Result<Form, PcapFault>
         Some(form) => form,
     };
     let link = form.order.number(&bytes[20..]) % 65_536;
-    if link == 1 {
+    if link == ETHERNET {
         Ok(form)
     } else {
         Err(PcapFault::WrongLink(link as u16))

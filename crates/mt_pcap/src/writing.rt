@@ -2,6 +2,7 @@
 ghost use Rattle.std.specs.Prelude.{◌≡◌, ◌<◌, ◌/◌, ◌^◌};
 ghost use Rattle.mt_pcap.specs.Text.{header_text, record_head_text};
 
+use crate::form::{LONGEST, NANOSECONDS_MAGIC, SECOND};
 use byteorder::{ByteOrder, LittleEndian};
 
 /// The header of a capture: version 2.4, little-endian, times in nanoseconds, zone 0, sigfigs 0,
@@ -10,10 +11,10 @@ pub fn header() -> [u8; 24]
     ensures { result ≡ header_text }
 {
     let mut text = [0; 24];
-    LittleEndian::write_u32(&mut text, 0xa1b2_3c4d);
+    LittleEndian::write_u32(&mut text, NANOSECONDS_MAGIC);
     LittleEndian::write_u16(&mut text[4..], 2);
     LittleEndian::write_u16(&mut text[6..], 4);
-    LittleEndian::write_u32(&mut text[16..], 262_144);
+    LittleEndian::write_u32(&mut text[16..], LONGEST);
     LittleEndian::write_u32(&mut text[20..], 1);
     text
 }
@@ -26,8 +27,8 @@ pub fn record_head(stamp: u64, length: u32) -> [u8; 16]
     ensures { result ≡ record_head_text stamp length }
 {
     let mut text = [0; 16];
-    LittleEndian::write_u32(&mut text, (stamp / 1_000_000_000) as u32);
-    LittleEndian::write_u32(&mut text[4..], (stamp % 1_000_000_000) as u32);
+    LittleEndian::write_u32(&mut text, (stamp / SECOND) as u32);
+    LittleEndian::write_u32(&mut text[4..], (stamp % SECOND) as u32);
     LittleEndian::write_u32(&mut text[8..], length);
     LittleEndian::write_u32(&mut text[12..], length);
     text
