@@ -1,3 +1,5 @@
 mod Positions
 mod Names
 mod Ways
+mod Texts
+mod Runs

@@ -12,17 +12,21 @@ use Rattle.metron.specs.declared.outcome.FileId.TheVariants as file
 use Rattle.metron.specs.declared.outcome.Fault.{Fault}
 use Rattle.metron.specs.declared.outcome.Fault.TheVariants.{Unbuilt, TooLong, Capture, Read, Memory}
 
+-- bytes, where they are told
+abbrev pub Told : Type 0
+Told = Option (List ℕ)
+
 -- ---- the chain
 
 -- the chain that a text stands for, where it has at most 1,048,576 bytes and a shape that can be read
 unfoldable pub chain_in : List ℕ → Option Parts
 chain_in text = if nat_lt 1048576 (length text) then None else chain_of text
 
-abbrev pub IsChainRead : Option (List ℕ) → Parts → Type 0
+abbrev pub IsChainRead : Told → Parts → Type 0
 IsChainRead held chain = IfSome held (λ text. chain_in text ≡ Some chain)
 
 -- why the chain's file gives no chain; the numbers are its failed reads before and after
-abbrev pub ChainFault : Option (List ℕ) → ℕ → ℕ → Fault → Type 0
+abbrev pub ChainFault : Told → ℕ → ℕ → Fault → Type 0
 ChainFault held before after (Unbuilt file.Chain) = IfSome held (λ text. chain_in text ≡ None)
 ChainFault held before after (Read file.Chain) = Rose before after
 ChainFault held before after Memory = ⊤
@@ -30,10 +34,10 @@ ChainFault held before after fault = ⊥
 
 -- ---- the script
 
-abbrev pub IsScriptRead : Option (List ℕ) → Type 0
+abbrev pub IsScriptRead : Told → Type 0
 IsScriptRead held = IfSome held (λ text. text ≡ [])
 
-abbrev pub ScriptFault : Option (List ℕ) → ℕ → ℕ → Fault → Type 0
+abbrev pub ScriptFault : Told → ℕ → ℕ → Fault → Type 0
 ScriptFault held before after (Unbuilt file.Script) = IfSome held (λ text. 0 < length text)
 ScriptFault held before after (Read file.Script) = Rose before after
 ScriptFault held before after Memory = ⊤
@@ -54,16 +58,16 @@ is_no_header (Some NotPcap) = true
 is_no_header (Some (WrongLink link)) = true
 is_no_header end = false
 
-pub record IsCaptureRead (held : Option (List ℕ)) (capture : captures.Capture) : Type 0 where
+pub record IsCaptureRead (held : Told) (capture : captures.Capture) : Type 0 where
   pub stands : IfSome held (λ bytes. (length bytes ≤ capture_limit) × (capture ≡ captures.capture_of bytes))
   pub begins : is_no_header capture.end ≡ false
 
 -- the capture is refused at its header
-pub record IsRefused (held : Option (List ℕ)) (why : PcapFault) : Type 0 where
+pub record IsRefused (held : Told) (why : PcapFault) : Type 0 where
   pub ends : IfSome held (λ bytes. (length bytes ≤ capture_limit) × ((captures.capture_of bytes).end ≡ Some why))
   pub no_header : is_no_header (Some why) ≡ true
 
-abbrev pub CaptureFault : Option (List ℕ) → ℕ → ℕ → Fault → Type 0
+abbrev pub CaptureFault : Told → ℕ → ℕ → Fault → Type 0
 CaptureFault held before after (TooLong (file.Capture device)) = (device ≡ 1) × IfSome held (λ bytes. capture_limit < length bytes)
 CaptureFault held before after (Capture device why) = (device ≡ 1) × IsRefused held why
 CaptureFault held before after (Read (file.Capture device)) = (device ≡ 1) × Rose before after

@@ -4,3 +4,4 @@ pub mod Command
 pub mod Fates
 pub mod Inputs
 pub mod Serving
+pub mod Causes

@@ -9,6 +9,7 @@ mod run;
 mod serve;
 
 pub use outcome::{Fault, FileId, Outcome};
+pub use run::metron;
 
 use std::process::ExitCode;
 

@@ -1,1 +1,84 @@
-//! x
+//! The top call.
+ghost use Rattle.std.specs.Prelude.{◌≡◌, [], map};
+ghost use Rattle.std.specs.String.{string_bytes};
+ghost use Rattle.mt_elements.specs.Parts.{Parts};
+ghost use Rattle.metron.specs.Outcome.{status_of};
+ghost use Rattle.metron.specs.Order.{order_of};
+ghost use Rattle.metron.specs.Command.{view};
+ghost use Rattle.metron.specs.Causes.{is_device, binds, output_device, state_of, IsRun};
+
+use crate::command::{Command, command_in};
+use crate::inputs::{read_capture, read_chain, read_script};
+use crate::serve::serve;
+use crate::{Fault, Outcome};
+use mt_elements::Chain;
+use mt_io::Files;
+use std::alloc::Global;
+
+/// Runs the command that the words are, over files by name.
+pub fn metron<F: Files>(alloc: Global, words: &[String], files: &mut F) -> Outcome
+    ensures status { result.status ≡ status_of result.fault }
+    ensures run { IsRun (map string_bytes words.now) (state_of F.held F.written F.read_faults F.write_faults files.old) (state_of F.held F.written F.read_faults F.write_faults files.new) (order_of result) result.fault }
+{
+    let mut order = Vec::new(alloc);
+    let fault = run(alloc, words, files, &mut order);
+    Outcome::new(fault, order)
+}
+
+fn run<F: Files>(alloc: Global, words: &[String], files: &mut F, order: &mut Vec<u32>) -> Fault
+    requires { order.old.items ≡ [] }
+    ensures { IsRun (map string_bytes words.now) (state_of F.held F.written F.read_faults F.write_faults files.old) (state_of F.held F.written F.read_faults F.write_faults files.new) order.new.items result }
+{
+    let Some(command) = command_in(words) else {
+        return Fault::UsageWord(0);
+    };
+    let chain = match read_chain(alloc, files, command.chain) {
+        Ok(chain) => chain,
+        Err(fault) => return fault,
+    };
+    if !binds(&chain, &command) {
+        return Fault::UsageWord(0);
+    }
+    match read_script(alloc, files, command.script) {
+        Ok(()) => {}
+        Err(fault) => return fault,
+    }
+    let capture = match read_capture(alloc, files, command.capture) {
+        Ok(capture) => capture,
+        Err(fault) => return fault,
+    };
+    let device = output_device(&chain);
+    match serve(alloc, files, command.output, device, &chain, &capture.records, order) {
+        Ok(()) => {}
+        Err(fault) => return fault,
+    }
+    match capture.end {
+        None => Fault::Done,
+        Some(why) => Fault::Capture(1, why),
+    }
+}
+
+/// Whether the command binds each device of the chain.
+#[tactic(auto, unfolding(crate::specs::Causes::binds))]
+fn binds(chain: &Chain, command: &Command<'_>) -> bool
+    ensures { result ≡ binds chain.now (view command.now) }
+{
+    is_device(chain, 1, command.device) && is_device(chain, output_device(chain), command.out)
+}
+
+/// Whether a device of the chain, from 1, has this name.
+fn is_device(chain: &Chain, number: u32, name: &[u8]) -> bool
+    ensures { result ≡ is_device chain.now number name.now }
+{
+    match chain.devices().get(number.saturating_sub(1) as usize) {
+        Some(device) => device.bytes() == name,
+        None => false,
+    }
+}
+
+/// The device on which frames are sent.
+fn output_device(chain: &Chain) -> u32
+    ensures { result ≡ output_device chain.now }
+{
+    chain.devices().len() as u32
+}
