@@ -29,6 +29,15 @@ gains_then_front before middle after first second one two =
 pub gains_front : (before after : Option (List ℕ)) (piece : List ℕ) → Gains before piece after → GainsFront before piece after
 gains_front before after piece gained = (piece, [], sym (append-nil piece), gained)
 
+-- a front of a piece is a front of a longer one
+pub front_of_more : (before after : Option (List ℕ)) (piece more : List ℕ) → GainsFront before piece after → GainsFront before (piece ++ more) after
+front_of_more before after piece more front =
+    (front.0, front.1 ++ more, ap (λ (l : List ℕ). l ++ more) front.2 ∙ append_assoc front.0 front.1 more, front.3)
+
+-- nothing was gained, of any piece
+pub front_of_nothing : (before after : Option (List ℕ)) (piece : List ℕ) → after ≡ before → GainsFront before piece after
+front_of_nothing before after piece same = ([], piece, refl, gains_nothing before after same)
+
 -- nothing was taken
 pub takes_nothing : (before after : Option (List ℕ)) → after ≡ before → Takes before [] after
 takes_nothing None after same = tt
@@ -59,6 +68,16 @@ takes_more_than limit (Some all) after bytes more taken = omega (arith, ap lengt
 pub takes_whole : (before after : Option (List ℕ)) (text : List ℕ) → IsWhole before text after → Takes before text after
 takes_whole None after text whole = tt
 takes_whole (Some all) after text whole = ([], whole.1, sym whole.0 ∙ sym (append-nil text))
+
+-- the same of what was held, or written, from before an earlier call that left it as it was
+pub whole_from : (earlier before after : Option (List ℕ)) (text : List ℕ) → before ≡ earlier → IsWhole before text after → IsWhole earlier text after
+whole_from earlier before after text same whole = subst (λ (o : Option (List ℕ)). IsWhole o text after) same whole
+
+pub gains_from : (earlier before after : Option (List ℕ)) (piece : List ℕ) → before ≡ earlier → Gains before piece after → Gains earlier piece after
+gains_from earlier before after piece same gained = subst (λ (o : Option (List ℕ)). Gains o piece after) same gained
+
+pub front_from : (earlier before after : Option (List ℕ)) (piece : List ℕ) → before ≡ earlier → GainsFront before piece after → GainsFront earlier piece after
+front_from earlier before after piece same front = subst (λ (o : Option (List ℕ)). GainsFront o piece after) same front
 
 -- a count rose, and did not fall later
 pub rose_then : (before middle after : ℕ) → Rose before middle → middle ≤ after → Rose before after

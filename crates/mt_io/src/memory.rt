@@ -31,6 +31,8 @@ impl MemoryFiles {
     pub fn new(alloc: Global) -> MemoryFiles
         ensures files { (name : List ℕ) → file_of result name ≡ None }
         ensures none_lost { lost_calls result ≡ 0 }
+        ensures held { (name : List ℕ) → ⟦<MemoryFiles as Files>⟧.held result name ≡ Some [] }
+        ensures written { (name : List ℕ) → ⟦<MemoryFiles as Files>⟧.written result name ≡ Some [] }
     {
         MemoryFiles {
             alloc,
