@@ -1,0 +1,216 @@
+//! A packet on its way through a chain.
+ghost use Rattle.std.specs.Prelude.{◌≡◌, ◌+◌, ◌^◌, ◌<◌, ◌≤◌, ◌↔◌, ◌∷◌, length, IsTrue, if◌then◌else◌};
+ghost use Rattle.mt_packet.specs.Flow.{packet_flow};
+ghost use Rattle.mt_packet.specs.Header.{field_of};
+ghost use Rattle.mt_packet.specs.Ipv4.{IsValidIpv4};
+ghost use Rattle.mt_packet.specs.Packet.{PacketState, has_ethernet, datagram_of, packet_header, arrived, stripped, encapsulated, checked, with_field, IsChecked, CanWrite};
+
+mod write;
+
+use crate::bytes::{two_bytes, write_six, write_two};
+use crate::datagram::{Datagram, valid};
+use crate::ethernet;
+use crate::field::Field;
+use crate::flow::Flow;
+use crate::frame::{Frame, Stamped};
+use crate::layer::Layer;
+use crate::writes::Writes;
+use std::marker::Model;
+
+/// A packet: its present bytes, its layer, its paint, its destination annotation, and what came with
+/// its frame. No call takes memory: the bytes of an Ethernet header that was taken away stay in
+/// front, unseen, and a new one is written over them.
+#[derive(Drop)]
+pub struct Packet {
+    bytes: Vec<u8>,
+    layer: Layer,
+    paint: u8,
+    annotation: u32,
+    stamp: u64,
+    device: u32,
+    number: u32,
+}
+
+impl Model for Packet {
+    ghost use Rattle.std.specs.Prelude.{◌≡◌, ◌≤◌, drop, length, false, if◌then◌else◌};
+    ghost use Rattle.mt_packet.specs.Packet.{PacketState, has_ethernet};
+
+    ghost Value = { PacketState };
+
+    ghost view = { λ p. record {
+      bytes = if has_ethernet p.layer then p.bytes.items else drop 14 p.bytes.items;
+      layer = p.layer;
+      paint = p.paint;
+      annotation = p.annotation;
+      stamp = p.stamp;
+      device = p.device;
+      number = p.number;
+    } };
+
+    ghost invariant = { λ p. has_ethernet p.layer ≡ false → 14 ≤ length p.bytes.items };
+}
+
+impl Packet {
+    /// The packet as its frame arrives: at layer `Frame`, with paint 0 and annotation 0.
+    pub fn new(stamped: Stamped) -> Packet
+        ensures { result ≡ arrived stamped.frame stamped.stamp stamped.device stamped.number }
+    {
+        Packet {
+            bytes: stamped.frame.into_bytes(),
+            layer: Layer::Frame,
+            paint: 0,
+            annotation: 0,
+            stamp: stamped.stamp,
+            device: stamped.device,
+            number: stamped.number,
+        }
+    }
+
+    /// What the present bytes are.
+    pub fn layer(&self) -> Layer
+        ensures { result ≡ self.now.layer }
+    {
+        self.layer
+    }
+
+    /// A field, read at the present bytes. Where the Ethernet header was taken away, the fields of
+    /// Ethernet and ARP are absent, and those of IPv4 are read from the first byte on.
+    pub fn field(&self, field: Field) -> u64
+        ensures { result ≡ field_of (packet_header self.now) field }
+    {
+        let ip = Datagram::new(ethernet::behind_header(&self.bytes));
+        match field {
+            Field::Device => u64::from(self.device),
+            Field::EthType => ethernet::kind(self.ethernet()),
+            Field::EthDst => ethernet::destination(self.ethernet()),
+            Field::EthSrc => ethernet::source(self.ethernet()),
+            Field::ArpOp => ethernet::arp_operation(self.ethernet()),
+            Field::Proto => u64::from(ip.protocol()),
+            Field::Src => u64::from(ip.source()),
+            Field::Dst => u64::from(ip.destination()),
+            Field::Dscp => u64::from(ip.code_point()),
+            Field::Ecn => u64::from(ip.congestion()),
+            Field::Sport => ip.source_port(),
+            Field::Dport => ip.destination_port(),
+            Field::IcmpType => u64::from(ip.icmp_type()),
+            Field::IpOk => u64::from(valid(ethernet::behind_header(&self.bytes))),
+            Field::Ports => u64::from(ip.has_ports()),
+            Field::Mf => u64::from(ip.more_fragments()),
+            Field::FragOff => u64::from(ip.fragment_offset()),
+            Field::Ttl => u64::from(ip.time_to_live()),
+            Field::Syn => u64::from(ip.tcp_flags() / 2 % 2),
+            Field::Ack => u64::from(ip.tcp_flags() / 16 % 2),
+            Field::Fin => u64::from(ip.tcp_flags() % 2),
+            Field::Rst => u64::from(ip.tcp_flags() / 4 % 2),
+            Field::Paint => u64::from(self.paint),
+            Field::Annotation => u64::from(self.annotation),
+        }
+    }
+
+    /// Writes a field, mends the checksums that cover it, and counts the write. The header checksum
+    /// is then the right one, from 0 to 65,534 (RFC 791). The transport checksum is changed by the
+    /// difference (RFC 1624), so an error in it stays.
+    pub fn write_field(&mut self, field: Field, value: u64, writes: &mut Writes)
+        requires allowed { CanWrite self.old field value }
+        requires room { writes.old < 2 ^ 63 }
+        ensures written { self.new ≡ with_field self.old field value }
+        ensures counted { writes.new ≡ writes.old + 1 }
+    {
+        writes.add();
+        match field {
+            Field::EthType => write_two(&mut self.bytes, 12, value as u16),
+            Field::EthDst => write_six(&mut self.bytes, 0, value),
+            Field::EthSrc => write_six(&mut self.bytes, 6, value),
+            Field::Paint => self.paint = value as u8,
+            Field::Annotation => self.annotation = value as u32,
+            _ => write::write(&mut self.bytes[ethernet::HEADER..], field, value),
+        }
+    }
+
+    /// Whether the data are valid IPv4 (RFC 791). If so, what follows the total length is cut off, a
+    /// header checksum of 65,535 is written 0, and so is a TCP checksum where ports are visible; the
+    /// annotation becomes the destination, and layer `Bare` becomes `Ip`. If not, nothing changes.
+    pub fn check_ip(&mut self) -> bool
+        ensures valid { IsTrue result ↔ IsValidIpv4 (datagram_of self.old) }
+        ensures after { self.new ≡ (if result then checked self.old else self.old) }
+    {
+        let datagram = ethernet::behind_header(&self.bytes);
+        if !valid(datagram) {
+            return false;
+        }
+        let ip = Datagram::new(datagram);
+        self.annotation = ip.destination();
+        let total = usize::from(two_bytes(datagram, 2));
+        self.bytes.truncate(ethernet::HEADER + total);
+        write::write_zeros(&mut self.bytes[ethernet::HEADER..]);
+        if self.layer == Layer::Bare {
+            self.layer = Layer::Ip;
+        }
+        true
+    }
+
+    /// Takes the Ethernet header away: `Frame` becomes `Bare`, `Framed` becomes `Ip`. False where the
+    /// frame has fewer than 14 bytes, and then nothing changes.
+    pub fn strip(&mut self) -> bool
+        requires { IsTrue (has_ethernet self.old.layer) }
+        ensures long_enough { IsTrue result ↔ (14 ≤ length self.old.bytes) }
+        ensures after { self.new ≡ (if result then stripped self.old else self.old) }
+    {
+        if self.bytes.len() < ethernet::HEADER {
+            return false;
+        }
+        self.layer = match self.layer {
+            Layer::Frame | Layer::Bare => Layer::Bare,
+            Layer::Framed | Layer::Ip => Layer::Ip,
+        };
+        true
+    }
+
+    /// Puts an Ethernet header in front of a checked packet: the EtherType `kind` and the low 48 bits
+    /// of the source and the destination address.
+    pub fn encap(&mut self, kind: u16, src: u64, dst: u64)
+        requires { self.old.layer ≡ Layer.Ip }
+        ensures { self.new ≡ encapsulated self.old kind src dst }
+    {
+        write_six(&mut self.bytes, 0, dst);
+        write_six(&mut self.bytes, 6, src);
+        write_two(&mut self.bytes, 12, kind);
+        self.layer = Layer::Framed;
+    }
+
+    /// The protocol and the two ends; none exactly where no ports are visible.
+    pub fn flow(&self) -> Option<Flow>
+        ensures { result ≡ packet_flow self.now }
+    {
+        let ip = Datagram::new(ethernet::behind_header(&self.bytes));
+        ip.flow()
+    }
+
+    /// The present bytes as a frame, with what came with it.
+    pub fn into_stamped(self) -> Stamped
+        ensures frame { result.frame ≡ self.bytes }
+        ensures stamp { result.stamp ≡ self.stamp }
+        ensures device { result.device ≡ self.device }
+        ensures number { result.number ≡ self.number }
+    {
+        let mut frame = Frame::new(self.bytes);
+        match self.layer {
+            Layer::Bare | Layer::Ip => frame.remove(0, ethernet::HEADER),
+            Layer::Frame | Layer::Framed => {}
+        }
+        Stamped {
+            stamp: self.stamp,
+            device: self.device,
+            number: self.number,
+            frame,
+        }
+    }
+
+    /// The bytes in which the Ethernet header stands; none where it was taken away.
+    fn ethernet(&self) -> &[u8] {
+        match self.layer {
+            Layer::Frame | Layer::Framed => &self.bytes,
+            Layer::Bare | Layer::Ip => &[],
+        }
+    }
+}
