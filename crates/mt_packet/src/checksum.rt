@@ -1,5 +1,5 @@
 //! The checksums of IPv4, TCP and UDP (RFC 1071, RFC 1624).
-ghost use Rattle.std.specs.Prelude.{◌≡◌, ◌<◌, ◌^◌, length, sum};
+ghost use Rattle.std.specs.Prelude.{◌≡◌, ◌+◌};
 ghost use Rattle.mt_packet.specs.Checksum.{words_of, ones_complement, ones_complement_sum, checksum_after_write, transport_after_write};
 
 /// The ones' complement sum of the 16-bit words of the bytes, in network order (RFC 1071). A last
@@ -16,13 +16,16 @@ pub fn ip_sum(bytes: &[u8]) -> u16
         place += 2;
     }
     if place < bytes.len() {
-        total = with_carry(total, u16::from(bytes[place]) * 256);
+        return with_carry(total, u16::from(bytes[place]) * 256);
     }
     total
 }
 
 /// The sum of two words, with what is past 16 bits carried round to the low end.
-fn with_carry(total: u16, word: u16) -> u16 {
+#[tactic(auto, using(std::proofs::lemmas::Bool::Decides::nat_tests))]
+fn with_carry(total: u16, word: u16) -> u16
+    ensures { result ≡ ones_complement (total + word) }
+{
     let plain = u32::from(total) + u32::from(word);
     if plain > 0xFFFF {
         (plain - 0xFFFF) as u16

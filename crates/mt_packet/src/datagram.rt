@@ -45,6 +45,7 @@ impl<'a> Datagram<'a> {
     }
 
     /// The protocol.
+    #[tactic(auto, using(crate::proofs::Readable::readable_long), unfolding(crate::specs::Ipv4::proto_of))]
     pub fn protocol(&self) -> u8
         ensures { result ≡ proto_of self.now.datagram.now }
     {
@@ -52,6 +53,7 @@ impl<'a> Datagram<'a> {
     }
 
     /// The source address.
+    #[tactic(auto, using(crate::proofs::Readable::readable_long), unfolding(crate::specs::Ipv4::src_of))]
     pub fn source(&self) -> u32
         ensures { result ≡ src_of self.now.datagram.now }
     {
@@ -63,6 +65,7 @@ impl<'a> Datagram<'a> {
     }
 
     /// The destination address.
+    #[tactic(auto, using(crate::proofs::Readable::readable_long), unfolding(crate::specs::Ipv4::dst_of))]
     pub fn destination(&self) -> u32
         ensures { result ≡ dst_of self.now.datagram.now }
     {
@@ -74,6 +77,7 @@ impl<'a> Datagram<'a> {
     }
 
     /// The differentiated services code point.
+    #[tactic(auto, using(crate::proofs::Readable::readable_long), unfolding(crate::specs::Ipv4::dscp_of))]
     pub fn code_point(&self) -> u8
         ensures { result ≡ dscp_of self.now.datagram.now }
     {
@@ -85,6 +89,7 @@ impl<'a> Datagram<'a> {
     }
 
     /// The explicit congestion notification.
+    #[tactic(auto, using(crate::proofs::Readable::readable_long), unfolding(crate::specs::Ipv4::ecn_of))]
     pub fn congestion(&self) -> u8
         ensures { result ≡ ecn_of self.now.datagram.now }
     {
@@ -96,6 +101,7 @@ impl<'a> Datagram<'a> {
     }
 
     /// The bit "more fragments".
+    #[tactic(auto, using(crate::proofs::Readable::readable_long), unfolding(crate::specs::Ipv4::mf_of))]
     pub fn more_fragments(&self) -> u8
         ensures { result ≡ mf_of self.now.datagram.now }
     {
@@ -107,6 +113,7 @@ impl<'a> Datagram<'a> {
     }
 
     /// The fragment offset.
+    #[tactic(auto, using(crate::proofs::Readable::readable_long), unfolding(crate::specs::Ipv4::frag_off_of))]
     pub fn fragment_offset(&self) -> u16
         ensures { result ≡ frag_off_of self.now.datagram.now }
     {
@@ -118,6 +125,7 @@ impl<'a> Datagram<'a> {
     }
 
     /// The time to live.
+    #[tactic(auto, using(crate::proofs::Readable::readable_long), unfolding(crate::specs::Ipv4::ttl_of))]
     pub fn time_to_live(&self) -> u8
         ensures { result ≡ ttl_of self.now.datagram.now }
     {
@@ -125,6 +133,7 @@ impl<'a> Datagram<'a> {
     }
 
     /// Whether the ports are visible.
+    #[tactic(auto, unfolding(crate::specs::Ipv4::has_ports))]
     pub fn has_ports(&self) -> bool
         ensures { result ≡ has_ports self.now.datagram.now }
     {
@@ -132,6 +141,7 @@ impl<'a> Datagram<'a> {
     }
 
     /// The source port, and 65,536 where no port is visible.
+    #[tactic(auto, using(crate::proofs::Readable::ports_long), unfolding(crate::specs::Ipv4::sport_of))]
     pub fn source_port(&self) -> u64
         ensures { result ≡ sport_of self.now.datagram.now }
     {
@@ -143,6 +153,7 @@ impl<'a> Datagram<'a> {
     }
 
     /// The destination port, and 65,536 where no port is visible.
+    #[tactic(auto, using(crate::proofs::Readable::ports_long), unfolding(crate::specs::Ipv4::dport_of))]
     pub fn destination_port(&self) -> u64
         ensures { result ≡ dport_of self.now.datagram.now }
     {
@@ -154,6 +165,7 @@ impl<'a> Datagram<'a> {
     }
 
     /// The protocol and the two ends, where the ports are visible.
+    #[tactic(auto, using(crate::proofs::Readable::ports_long), unfolding(crate::specs::Flow::datagram_flow, crate::specs::Ipv4::sport_of, crate::specs::Ipv4::dport_of))]
     pub fn flow(&self) -> Option<Flow>
         ensures { result ≡ datagram_flow self.now.datagram.now }
     {
@@ -171,6 +183,7 @@ impl<'a> Datagram<'a> {
     }
 
     /// The type of an ICMP message.
+    #[tactic(auto, using(crate::proofs::Readable::icmp_long), unfolding(crate::specs::Ipv4::icmp_type_of))]
     pub fn icmp_type(&self) -> u16
         ensures { result ≡ icmp_type_of self.now.datagram.now }
     {
@@ -182,6 +195,7 @@ impl<'a> Datagram<'a> {
     }
 
     /// The byte of the TCP flags.
+    #[tactic(auto, using(crate::proofs::Readable::tcp_long), unfolding(crate::specs::Ipv4::tcp_flags_of))]
     pub fn tcp_flags(&self) -> u8
         ensures { result ≡ tcp_flags_of self.now.datagram.now }
     {
@@ -194,6 +208,7 @@ impl<'a> Datagram<'a> {
 }
 
 /// Whether the fixed part of a header is there, of version 4.
+#[tactic(auto, unfolding(crate::specs::Ipv4::is_readable))]
 pub fn readable(datagram: &[u8]) -> bool
     ensures { result ≡ is_readable datagram.now }
 {
@@ -210,6 +225,7 @@ pub fn header_bytes(datagram: &[u8]) -> usize
 
 /// Whether the packet is no later fragment and carries a message of that protocol, of at least so many
 /// bytes.
+#[tactic(auto, using(crate::proofs::Readable::readable_long), unfolding(crate::specs::Ipv4::has_message, crate::specs::Ipv4::proto_of, crate::specs::Ipv4::frag_off_of))]
 fn carries(datagram: &[u8], protocol: u8, least: usize) -> bool
     requires { least < 256 }
     ensures { result ≡ has_message datagram.now protocol least }
@@ -226,6 +242,7 @@ fn carries(datagram: &[u8], protocol: u8, least: usize) -> bool
 }
 
 /// Whether the data begin with a valid IPv4 packet (RFC 791).
+#[tactic(auto, using(crate::proofs::Readable::readable_long), unfolding(crate::specs::Ipv4::is_valid_ipv4))]
 pub fn valid(datagram: &[u8]) -> bool
     ensures { result ≡ is_valid_ipv4 datagram.now }
 {
