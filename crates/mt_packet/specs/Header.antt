@@ -71,12 +71,16 @@ abbrev pub field_of : List ℕ → Field → ℕ
 field_of header field = slice_index header (number_of field)
 
 -- each of 24 values is in its field's range
-abbrev pub InRanges : List ℕ → Type 0
-InRanges header = (field : Field) → field_of header field ≤ greatest_of field
+pub record InRanges (header : List ℕ) : Type 0 where
+  pub in_range : (field : Field) → field_of header field ≤ greatest_of field
 
 -- each of 13 values is in its field's range
-abbrev pub InVisibleRanges : List ℕ → Type 0
-InVisibleRanges header = (field : Field) → IsVisible field → field_of header field ≤ greatest_of field
+pub record InVisibleRanges (header : List ℕ) : Type 0 where
+  pub in_range : (field : Field) → IsVisible field → field_of header field ≤ greatest_of field
+
+-- each item is a byte
+abbrev pub AreBytes : List ℕ → Type 0
+AreBytes bytes = (place : ℕ) → slice_index bytes place < 256
 
 -- the 24 fields in order, of a device, the bytes in which the Ethernet header stands, the data behind
 -- it, a paint and an annotation

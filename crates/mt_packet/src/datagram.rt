@@ -1,7 +1,7 @@
 //! The fields of an IPv4 packet and of the TCP, UDP or ICMP header in it.
 ghost use Rattle.std.specs.Prelude.{◌≡◌, ◌+◌, ◌<◌, ◌≤◌, length, Option, Some, None, if◌then◌else◌};
 ghost use Rattle.mt_packet.specs.Flow.{datagram_flow};
-ghost use Rattle.mt_packet.specs.Ipv4.{is_readable, header_length, proto_of, src_of, dst_of, dscp_of, ecn_of, mf_of, frag_off_of, ttl_of, has_message, has_ports, sport_of, dport_of, icmp_type_of, tcp_flags_of, is_valid_ipv4};
+ghost use Rattle.mt_packet.specs.Ipv4.{is_readable, header_length, proto_of, src_of, dst_of, dscp_of, ecn_of, mf_of, frag_off_of, ttl_of, has_message, has_ports, sport_of, dport_of, icmp_type_of, tcp_flags_of, is_valid_ipv4, ports_of, ip_ok_of, fin_of, syn_of, rst_of, ack_of};
 
 use crate::bytes::{four_bytes, two_bytes};
 use crate::checksum::ip_sum;
@@ -204,6 +204,54 @@ impl<'a> Datagram<'a> {
         } else {
             0
         }
+    }
+
+    /// 1 where the ports are visible, and 0 elsewhere.
+    #[tactic(auto, unfolding(crate::specs::Ipv4::ports_of))]
+    pub fn ports(&self) -> u64
+        ensures { result ≡ ports_of self.now.datagram.now }
+    {
+        if self.has_ports() { 1 } else { 0 }
+    }
+
+    /// 1 where the datagram is valid IPv4, and 0 elsewhere.
+    #[tactic(auto, unfolding(crate::specs::Ipv4::ip_ok_of))]
+    pub fn validity(&self) -> u64
+        ensures { result ≡ ip_ok_of self.now.datagram.now }
+    {
+        if valid(self.datagram) { 1 } else { 0 }
+    }
+
+    /// The flag FIN.
+    #[tactic(auto, unfolding(crate::specs::Ipv4::fin_of))]
+    pub fn fin(&self) -> u8
+        ensures { result ≡ fin_of self.now.datagram.now }
+    {
+        self.tcp_flags() % 2
+    }
+
+    /// The flag SYN.
+    #[tactic(auto, unfolding(crate::specs::Ipv4::syn_of))]
+    pub fn syn(&self) -> u8
+        ensures { result ≡ syn_of self.now.datagram.now }
+    {
+        self.tcp_flags() / 2 % 2
+    }
+
+    /// The flag RST.
+    #[tactic(auto, unfolding(crate::specs::Ipv4::rst_of))]
+    pub fn rst(&self) -> u8
+        ensures { result ≡ rst_of self.now.datagram.now }
+    {
+        self.tcp_flags() / 4 % 2
+    }
+
+    /// The flag ACK.
+    #[tactic(auto, unfolding(crate::specs::Ipv4::ack_of))]
+    pub fn ack(&self) -> u8
+        ensures { result ≡ ack_of self.now.datagram.now }
+    {
+        self.tcp_flags() / 16 % 2
     }
 }
 

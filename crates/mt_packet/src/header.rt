@@ -1,8 +1,8 @@
 //! The header of a frame.
-ghost use Rattle.std.specs.Prelude.{◌≡◌, ◌≤◌};
+ghost use Rattle.std.specs.Prelude.{◌≡◌, ◌≤◌, length};
 ghost use Rattle.mt_packet.specs.Header.{header_of, field_of, greatest_of, InRanges};
 
-use crate::datagram::{Datagram, valid};
+use crate::datagram::Datagram;
 use crate::ethernet;
 use crate::field::{Field, HEADER_FIELDS};
 use crate::frame::Frame;
@@ -38,40 +38,22 @@ impl Header {
     /// The header of a frame that arrives on a device: its paint and its annotation are 0. Each byte is
     /// read at its own place, and no memory is taken.
     pub fn of(device: u32, frame: &Frame) -> Header
-        ensures { result ≡ header_of device frame.now }
+        ensures header { result ≡ header_of device frame.now }
+        ensures ranges { InRanges result }
     {
         let bytes = frame.bytes();
-        let datagram = ethernet::behind_header(bytes);
-        let ip = Datagram::new(datagram);
-        let flags = ip.tcp_flags();
         Header {
-            values: [
-                u64::from(device),
-                ethernet::kind(bytes),
-                ethernet::destination(bytes),
-                ethernet::source(bytes),
-                ethernet::arp_operation(bytes),
-                u64::from(ip.protocol()),
-                u64::from(ip.source()),
-                u64::from(ip.destination()),
-                u64::from(ip.code_point()),
-                u64::from(ip.congestion()),
-                ip.source_port(),
-                ip.destination_port(),
-                u64::from(ip.icmp_type()),
-                u64::from(valid(datagram)),
-                u64::from(ip.has_ports()),
-                u64::from(ip.more_fragments()),
-                u64::from(ip.fragment_offset()),
-                u64::from(ip.time_to_live()),
-                u64::from(flags / 2 % 2),
-                u64::from(flags / 16 % 2),
-                u64::from(flags % 2),
-                u64::from(flags / 4 % 2),
-                0,
-                0,
-            ],
+            values: read(device, bytes),
         }
+    }
+
+    /// All values, by field number.
+    pub fn values(&self) -> &[u64; HEADER_FIELDS]
+        ensures values { result.now ≡ self.now }
+        ensures whole { length self.now ≡ 24 }
+        ensures ranges { InRanges self.now }
+    {
+        &self.values
     }
 
     /// The value of a field.
@@ -81,4 +63,38 @@ impl Header {
     {
         self.values[field.number()]
     }
+}
+
+/// The fields of the bytes of a frame, in their order.
+fn read(device: u32, bytes: &[u8]) -> [u64; HEADER_FIELDS]
+    ensures header { result ≡ header_of device bytes.now }
+    ensures ranges { InRanges result }
+{
+    let ip = Datagram::new(ethernet::behind_header(bytes));
+    [
+        u64::from(device),
+        ethernet::kind(bytes),
+        ethernet::destination(bytes),
+        ethernet::source(bytes),
+        ethernet::arp_operation(bytes),
+        u64::from(ip.protocol()),
+        u64::from(ip.source()),
+        u64::from(ip.destination()),
+        u64::from(ip.code_point()),
+        u64::from(ip.congestion()),
+        ip.source_port(),
+        ip.destination_port(),
+        u64::from(ip.icmp_type()),
+        ip.validity(),
+        ip.ports(),
+        u64::from(ip.more_fragments()),
+        u64::from(ip.fragment_offset()),
+        u64::from(ip.time_to_live()),
+        u64::from(ip.syn()),
+        u64::from(ip.ack()),
+        u64::from(ip.fin()),
+        u64::from(ip.rst()),
+        0,
+        0,
+    ]
 }

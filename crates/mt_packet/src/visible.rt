@@ -35,25 +35,12 @@ impl Visible {
 
     /// What a switch sees of a header.
     pub fn of(header: &Header) -> Visible
-        ensures { result ≡ visible_of header.now }
+        ensures visible { result ≡ visible_of header.now }
+        ensures ranges { InVisibleRanges result }
     {
-        Visible {
-            values: [
-                header.get(Field::Device),
-                header.get(Field::EthType),
-                header.get(Field::EthDst),
-                header.get(Field::EthSrc),
-                header.get(Field::ArpOp),
-                header.get(Field::Proto),
-                header.get(Field::Src),
-                header.get(Field::Dst),
-                header.get(Field::Dscp),
-                header.get(Field::Ecn),
-                header.get(Field::Sport),
-                header.get(Field::Dport),
-                header.get(Field::IcmpType),
-            ],
-        }
+        let mut values = [0; VISIBLE_FIELDS];
+        values.copy_from_slice(&header.values()[..VISIBLE_FIELDS]);
+        Visible { values }
     }
 
     /// The value of a visible field.
