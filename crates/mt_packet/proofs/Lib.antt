@@ -1,3 +1,4 @@
 pub mod Readable
 pub mod Sums
 pub mod Ranges
+pub mod Puts

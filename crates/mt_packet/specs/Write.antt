@@ -1,11 +1,16 @@
 -- Writing a field into the bytes of a packet, with the checksums that it mends. A write sets bytes in
 -- their place, so all other bytes stay.
-use Rattle.std.specs.Prelude.{ℕ, ◌+◌, ◌*◌, ◌/◌, ◌%◌, ◌^◌, List, [], ◌∷◌, take, slice_index, slice_set, sum, ◌==◌, ◌&&◌, if◌then◌else◌}
+use Rattle.std.specs.Prelude.{ℕ, ◌+◌, ◌*◌, ◌/◌, ◌%◌, ◌≤◌, List, [], ◌∷◌, length, take, slice_index, slice_set, sum, ◌==◌, ◌&&◌, if◌then◌else◌}
 use Rattle.mt_packet.specs.Checksum.{words_of, negative_of, transport_after_write}
 use Rattle.mt_packet.specs.Field.{two_bytes_at}
 use Rattle.mt_packet.specs.Ipv4.{header_length, has_ports, proto_of}
 use Rattle.mt_packet.specs.declared.field.Field.{Field}
 use Rattle.mt_packet.specs.declared.field.Field.TheVariants.{Src, Dst, Dscp, Sport, Dport, Ttl}
+
+-- a whole header lies within the bytes
+pub record HasHeader (datagram : List ℕ) : Type 0 where
+  pub has_fixed_part : 20 ≤ length datagram
+  pub is_within : header_length datagram ≤ length datagram
 
 -- the bytes with a number in two of them from a place on, in network order
 abbrev pub put_two : List ℕ → ℕ → ℕ → List ℕ
@@ -55,13 +60,21 @@ unfoldable pub with_port : List ℕ → ℕ → ℕ → List ℕ
 with_port datagram place value =
     with_transport_checksum (put_two datagram place value) (two_bytes_at datagram place ∷ []) (value ∷ [])
 
+-- the packet with a code point in the high six bits of byte 1
+unfoldable pub with_dscp : List ℕ → ℕ → List ℕ
+with_dscp datagram value =
+    with_header_checksum (slice_set datagram 1 (value * 4 + slice_index datagram 1 % 4))
+
+-- the packet with a time to live
+unfoldable pub with_ttl : List ℕ → ℕ → List ℕ
+with_ttl datagram value = with_header_checksum (slice_set datagram 8 value)
+
 -- an IPv4 packet with a field set to a value, and its checksums mended
-unfoldable pub ipv4_with_field : List ℕ → Field → ℕ → List ℕ
+abbrev pub ipv4_with_field : List ℕ → Field → ℕ → List ℕ
 ipv4_with_field datagram Src value = with_address datagram 12 value
 ipv4_with_field datagram Dst value = with_address datagram 16 value
-ipv4_with_field datagram Dscp value =
-    with_header_checksum (slice_set datagram 1 (value * 4 + slice_index datagram 1 % 4))
-ipv4_with_field datagram Ttl value = with_header_checksum (slice_set datagram 8 value)
+ipv4_with_field datagram Dscp value = with_dscp datagram value
+ipv4_with_field datagram Ttl value = with_ttl datagram value
 ipv4_with_field datagram Sport value = with_port datagram (header_length datagram) value
 ipv4_with_field datagram Dport value = with_port datagram (header_length datagram + 2) value
 ipv4_with_field datagram _ value = datagram

@@ -1,14 +1,15 @@
 //! A packet on its way through a chain.
-ghost use Rattle.std.specs.Prelude.{◌≡◌, ◌+◌, ◌^◌, ◌<◌, ◌≤◌, ◌↔◌, ◌∷◌, length, IsTrue, if◌then◌else◌};
+ghost use Rattle.std.specs.Prelude.{◌≡◌, ◌+◌, ◌^◌, ◌<◌, ◌≤◌, ◌↔◌, ◌++◌, length, take, drop, true, IsTrue, if◌then◌else◌};
 ghost use Rattle.mt_packet.specs.Flow.{packet_flow};
 ghost use Rattle.mt_packet.specs.Header.{field_of};
-ghost use Rattle.mt_packet.specs.Ipv4.{IsValidIpv4};
-ghost use Rattle.mt_packet.specs.Packet.{PacketState, has_ethernet, datagram_of, packet_header, arrived, stripped, encapsulated, checked, with_field, IsChecked, CanWrite};
+ghost use Rattle.mt_packet.specs.Ipv4.{IsValidIpv4, header_length, has_ports};
+ghost use Rattle.mt_packet.specs.Packet.{PacketState, has_ethernet, frame_of, datagram_of, packet_header, arrived, stripped, encapsulated, checked, with_field, CanWrite};
+ghost use Rattle.mt_packet.specs.Write.{HasHeader, with_address, with_dscp, with_ttl, with_port, with_header_zero, with_tcp_zero};
 
 mod write;
 
 use crate::bytes::{two_bytes, write_six, write_two};
-use crate::datagram::{Datagram, valid};
+use crate::datagram::{Datagram, header_bytes, valid};
 use crate::ethernet;
 use crate::field::Field;
 use crate::flow::Flow;
@@ -123,7 +124,13 @@ impl Packet {
             Field::EthSrc => write_six(&mut self.bytes, 6, value),
             Field::Paint => self.paint = value as u8,
             Field::Annotation => self.annotation = value as u32,
-            _ => write::write(&mut self.bytes[ethernet::HEADER..], field, value),
+            Field::Src => write_address(&mut self.bytes, 12, value as u32),
+            Field::Dst => write_address(&mut self.bytes, 16, value as u32),
+            Field::Dscp => write_code_point(&mut self.bytes, value as u8),
+            Field::Ttl => write_time_to_live(&mut self.bytes, value as u8),
+            Field::Sport => write_port(&mut self.bytes, 0, value as u16),
+            Field::Dport => write_port(&mut self.bytes, 2, value as u16),
+            _ => {}
         }
     }
 
@@ -138,14 +145,15 @@ impl Packet {
         if !valid(datagram) {
             return false;
         }
-        let ip = Datagram::new(datagram);
-        self.annotation = ip.destination();
+        self.annotation = Datagram::new(datagram).destination();
         let total = usize::from(two_bytes(datagram, 2));
         self.bytes.truncate(ethernet::HEADER + total);
-        write::write_zeros(&mut self.bytes[ethernet::HEADER..]);
-        if self.layer == Layer::Bare {
-            self.layer = Layer::Ip;
-        }
+        write_zeros(&mut self.bytes);
+        self.layer = match self.layer {
+            Layer::Frame => Layer::Frame,
+            Layer::Bare | Layer::Ip => Layer::Ip,
+            Layer::Framed => Layer::Framed,
+        };
         true
     }
 
@@ -207,10 +215,64 @@ impl Packet {
     }
 
     /// The bytes in which the Ethernet header stands; none where it was taken away.
-    fn ethernet(&self) -> &[u8] {
+    fn ethernet(&self) -> &[u8]
+        ensures { result.now ≡ frame_of self.now }
+    {
         match self.layer {
             Layer::Frame | Layer::Framed => &self.bytes,
             Layer::Bare | Layer::Ip => &[],
         }
     }
+}
+
+/// Writes an address of the IPv4 header behind the Ethernet header.
+fn write_address(bytes: &mut [u8], place: usize, value: u32)
+    requires header { HasHeader (drop 14 bytes.old) }
+    requires low { 12 ≤ place }
+    requires high { place ≤ 16 }
+    ensures { bytes.new ≡ take 14 bytes.old ++ with_address (drop 14 bytes.old) place value }
+{
+    write::address(&mut bytes[ethernet::HEADER..], place, value);
+}
+
+/// Writes the code point of the IPv4 header behind the Ethernet header.
+fn write_code_point(bytes: &mut [u8], value: u8)
+    requires header { HasHeader (drop 14 bytes.old) }
+    requires range { value ≤ 63 }
+    ensures { bytes.new ≡ take 14 bytes.old ++ with_dscp (drop 14 bytes.old) value }
+{
+    write::code_point(&mut bytes[ethernet::HEADER..], value);
+}
+
+/// Writes the time to live of the IPv4 header behind the Ethernet header.
+fn write_time_to_live(bytes: &mut [u8], value: u8)
+    requires { HasHeader (drop 14 bytes.old) }
+    ensures { bytes.new ≡ take 14 bytes.old ++ with_ttl (drop 14 bytes.old) value }
+{
+    write::time_to_live(&mut bytes[ethernet::HEADER..], value);
+}
+
+/// Writes a port, the source's at 0 and the destination's at 2 of the transport header.
+fn write_port(bytes: &mut [u8], at: usize, value: u16)
+    requires ports { has_ports (drop 14 bytes.old) ≡ true }
+    requires within { at ≤ 2 }
+    ensures {
+        let datagram = drop 14 bytes.old
+        in bytes.new ≡ take 14 bytes.old ++ with_port datagram (header_length datagram + at) value
+    }
+{
+    let place = header_bytes(&bytes[ethernet::HEADER..]) + at;
+    write::port(&mut bytes[ethernet::HEADER..], place, value);
+}
+
+/// Gives the checksums of 65,535 their written form.
+fn write_zeros(bytes: &mut [u8])
+    requires { 34 ≤ length bytes.old }
+    ensures {
+        bytes.new ≡ take 14 bytes.old ++ with_tcp_zero (with_header_zero (drop 14 bytes.old))
+    }
+{
+    let datagram = &mut bytes[ethernet::HEADER..];
+    write::write_header_zero(datagram);
+    write::write_tcp_zero(datagram);
 }
