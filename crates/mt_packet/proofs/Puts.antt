@@ -13,8 +13,8 @@ pub put_two-again : (l : List ℕ) (p u v : ℕ) → put_two (put_two l p u) p v
 put_two-again l p u v =
     let apart : p + 1 ≢ p = omega arith in
     ap (λ m. set m (p + 1) (v % 256))
-        (set_comm (set l p (u / 256 % 256)) (p + 1) p (u % 256) (v / 256 % 256) apart
-         ∙ ap (λ m. set m (p + 1) (u % 256)) (set-set l p (u / 256 % 256) (v / 256 % 256)))
+    (set_comm (set l p (u / 256 % 256)) (p + 1) p (u % 256) (v / 256 % 256) apart
+    ∙ ap (λ m. set m (p + 1) (u % 256)) (set-set l p (u / 256 % 256) (v / 256 % 256)))
     ∙ set-set (set l p (v / 256 % 256)) (p + 1) (u % 256) (v % 256)
 
 -- the ones' complement of a sum's ones' complement number
@@ -33,9 +33,9 @@ header-mended datagram zeroed after header total h z t a =
     ∙ ap (λ d. put_two d 10 ((65535 - total) % 65535)) z
     ∙ put_two-again datagram 10 0 ((65535 - total) % 65535)
     ∙ ap (λ v. put_two datagram 10 v)
-        (ap (λ n. (65535 - n) % 65535) t
-         ∙ negative-ones_complement (sum (words_of (take header zeroed)))
-         ∙ ap (λ w. negative_of (sum (words_of w))) (ap (λ n. take n zeroed) h ∙ ap (λ d. take (header_length datagram) d) z))
+    (ap (λ n. (65535 - n) % 65535) t
+    ∙ negative-ones_complement (sum (words_of (take header zeroed)))
+    ∙ ap (λ w. negative_of (sum (words_of w))) (ap (λ n. take n zeroed) h ∙ ap (λ d. take (header_length datagram) d) z))
 
 -- a message has its protocol
 pub message_proto : (datagram : List ℕ) (protocol least : ℕ) → has_message datagram protocol least ≡ true

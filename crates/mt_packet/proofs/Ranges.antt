@@ -156,5 +156,5 @@ pub visible-in_ranges : (header : List ℕ) → InRanges header → InVisibleRan
 visible-in_ranges header r =
     record {
       in_range =
-        λ field seen. let e = get_or-take 13 header (number_of field) 0 seen in rw e (r.in_range field)
+          λ field seen. let e = get_or-take 13 header (number_of field) 0 seen in rw e (r.in_range field);
     }

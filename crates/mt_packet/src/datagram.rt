@@ -1,7 +1,7 @@
 //! The fields of an IPv4 packet and of the TCP, UDP or ICMP header in it.
-ghost use Rattle.std.specs.Prelude.{◌≡◌, ◌+◌, ◌<◌, ◌≤◌, length, Option, Some, None, if◌then◌else◌};
+ghost use Rattle.std.specs.Prelude.{◌≡◌, ◌+◌, ◌<◌, ◌≤◌, length, ◌↔◌, IsTrue, Option, Some, None, if◌then◌else◌};
 ghost use Rattle.mt_packet.specs.Flow.{datagram_flow};
-ghost use Rattle.mt_packet.specs.Ipv4.{is_readable, header_length, proto_of, src_of, dst_of, dscp_of, ecn_of, mf_of, frag_off_of, ttl_of, has_message, has_ports, sport_of, dport_of, icmp_type_of, tcp_flags_of, is_valid_ipv4, ports_of, ip_ok_of, fin_of, syn_of, rst_of, ack_of};
+ghost use Rattle.mt_packet.specs.Ipv4.{is_readable, header_length, proto_of, src_of, dst_of, dscp_of, ecn_of, mf_of, frag_off_of, ttl_of, has_message, has_ports, sport_of, dport_of, icmp_type_of, tcp_flags_of, is_valid_ipv4, IsValidIpv4, ports_of, ip_ok_of, fin_of, syn_of, rst_of, ack_of};
 
 use crate::bytes::{four_bytes, two_bytes};
 use crate::checksum::ip_sum;
@@ -290,8 +290,16 @@ fn carries(datagram: &[u8], protocol: u8, least: usize) -> bool
 }
 
 /// Whether the data begin with a valid IPv4 packet (RFC 791).
-#[tactic(auto, using(crate::proofs::Readable::readable_long), unfolding(crate::specs::Ipv4::is_valid_ipv4))]
 pub fn valid(datagram: &[u8]) -> bool
+    ensures test { result ≡ is_valid_ipv4 datagram.now }
+    ensures valid { IsTrue result ↔ IsValidIpv4 datagram.now }
+{
+    passes(datagram)
+}
+
+/// Whether the lengths, the version and the sum of a header are right.
+#[tactic(auto, using(crate::proofs::Readable::readable_long), unfolding(crate::specs::Ipv4::is_valid_ipv4))]
+fn passes(datagram: &[u8]) -> bool
     ensures { result ≡ is_valid_ipv4 datagram.now }
 {
     if !readable(datagram) {

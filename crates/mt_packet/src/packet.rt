@@ -3,7 +3,7 @@ ghost use Rattle.std.specs.Prelude.{◌≡◌, ◌+◌, ◌^◌, ◌<◌, ◌≤
 ghost use Rattle.mt_packet.specs.Flow.{packet_flow};
 ghost use Rattle.mt_packet.specs.Header.{field_of};
 ghost use Rattle.mt_packet.specs.Ipv4.{IsValidIpv4, header_length, has_ports};
-ghost use Rattle.mt_packet.specs.Packet.{PacketState, has_ethernet, frame_of, datagram_of, packet_header, arrived, stripped, encapsulated, checked, with_field, CanWrite};
+ghost use Rattle.mt_packet.specs.Packet.{PacketState, has_ethernet, frame_of, datagram_of, packet_header, arrived, stripped, encapsulated, ethernet_header, checked, checked_datagram, layer_checked, with_field, CanWrite};
 ghost use Rattle.mt_packet.specs.Write.{HasHeader, with_address, with_dscp, with_ttl, with_port, with_header_zero, with_tcp_zero};
 
 mod write;
@@ -146,14 +146,8 @@ impl Packet {
             return false;
         }
         self.annotation = Datagram::new(datagram).destination();
-        let total = usize::from(two_bytes(datagram, 2));
-        self.bytes.truncate(ethernet::HEADER + total);
-        write_zeros(&mut self.bytes);
-        self.layer = match self.layer {
-            Layer::Frame => Layer::Frame,
-            Layer::Bare | Layer::Ip => Layer::Ip,
-            Layer::Framed => Layer::Framed,
-        };
+        trim(&mut self.bytes);
+        self.layer = checked_layer(self.layer);
         true
     }
 
@@ -180,9 +174,7 @@ impl Packet {
         requires { self.old.layer ≡ Layer.Ip }
         ensures { self.new ≡ encapsulated self.old kind src dst }
     {
-        write_six(&mut self.bytes, 0, dst);
-        write_six(&mut self.bytes, 6, src);
-        write_two(&mut self.bytes, 12, kind);
+        write_ethernet(&mut self.bytes, kind, src, dst);
         self.layer = Layer::Framed;
     }
 
@@ -225,6 +217,40 @@ impl Packet {
     }
 }
 
+/// Writes an Ethernet header over the first bytes.
+#[tactic(auto, using(crate::proofs::Frames::encapsulated_bytes))]
+fn write_ethernet(bytes: &mut [u8], kind: u16, src: u64, dst: u64)
+    requires { 14 ≤ length bytes.old }
+    ensures { bytes.new ≡ ethernet_header kind src dst ++ drop 14 bytes.old }
+{
+    write_six(bytes, 0, dst);
+    write_six(bytes, 6, src);
+    write_two(bytes, 12, kind);
+}
+
+/// The layer of a packet that has been found to be IPv4.
+fn checked_layer(layer: Layer) -> Layer
+    ensures { result ≡ layer_checked layer }
+{
+    match layer {
+        Layer::Frame => Layer::Frame,
+        Layer::Bare | Layer::Ip => Layer::Ip,
+        Layer::Framed => Layer::Framed,
+    }
+}
+
+/// Cuts off what follows the IPv4 packet behind the Ethernet header, and gives its checksums of 65,535
+/// their written form.
+#[tactic(auto, using(std::proofs::lemmas::Grind::common_steps, crate::proofs::Frames::trimmed, crate::proofs::Frames::valid_behind), unfolding(crate::specs::Packet::checked_datagram))]
+fn trim(bytes: &mut Vec<u8>)
+    requires { IsValidIpv4 (drop 14 bytes.old.items) }
+    ensures { bytes.new.items ≡ take 14 bytes.old.items ++ checked_datagram (drop 14 bytes.old.items) }
+{
+    let total = usize::from(two_bytes(ethernet::behind_header(bytes), 2));
+    bytes.truncate(ethernet::HEADER + total);
+    write_zeros(bytes);
+}
+
 /// Writes an address of the IPv4 header behind the Ethernet header.
 fn write_address(bytes: &mut [u8], place: usize, value: u32)
     requires header { HasHeader (drop 14 bytes.old) }
@@ -253,24 +279,22 @@ fn write_time_to_live(bytes: &mut [u8], value: u8)
 }
 
 /// Writes a port, the source's at 0 and the destination's at 2 of the transport header.
+#[tactic(auto, using(crate::proofs::Frames::ports_behind))]
 fn write_port(bytes: &mut [u8], at: usize, value: u16)
     requires ports { has_ports (drop 14 bytes.old) ≡ true }
     requires within { at ≤ 2 }
-    ensures {
-        let datagram = drop 14 bytes.old
-        in bytes.new ≡ take 14 bytes.old ++ with_port datagram (header_length datagram + at) value
-    }
+    ensures { let datagram = drop 14 bytes.old
+        in bytes.new ≡ take 14 bytes.old ++ with_port datagram (header_length datagram + at) value }
 {
-    let place = header_bytes(&bytes[ethernet::HEADER..]) + at;
-    write::port(&mut bytes[ethernet::HEADER..], place, value);
+    let datagram = &mut bytes[ethernet::HEADER..];
+    let place = header_bytes(datagram) + at;
+    write::port(datagram, place, value);
 }
 
 /// Gives the checksums of 65,535 their written form.
 fn write_zeros(bytes: &mut [u8])
     requires { 34 ≤ length bytes.old }
-    ensures {
-        bytes.new ≡ take 14 bytes.old ++ with_tcp_zero (with_header_zero (drop 14 bytes.old))
-    }
+    ensures { bytes.new ≡ take 14 bytes.old ++ with_tcp_zero (with_header_zero (drop 14 bytes.old)) }
 {
     let datagram = &mut bytes[ethernet::HEADER..];
     write::write_header_zero(datagram);

@@ -12,4 +12,4 @@ pub returns-clause-ranges : goal.returns-clause-ranges
 unfolding header_of
 returns-clause-ranges c =
     InRanges-along _ (header_of c.args.device c.args.bytes.now) (cc)
-        (header_of-in_ranges c.args.device c.args.bytes.now (omega arith) (λ place. omega (arith, c.type_inv.bytes place)))
+    (header_of-in_ranges c.args.device c.args.bytes.now (omega arith) (λ place. omega (arith, c.type_inv.bytes place)))
