@@ -1,1 +1,7 @@
+pub mod Checksum
 pub mod Field
+pub mod Flow
+pub mod Header
+pub mod Ipv4
+pub mod Packet
+pub mod Write

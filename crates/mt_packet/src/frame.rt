@@ -1,6 +1,7 @@
 //! A frame, and a frame as it arrived.
-ghost use Rattle.std.specs.Prelude.{◌≡◌, length};
+ghost use Rattle.std.specs.Prelude.{◌≡◌, ◌+◌, ◌≤◌, ◌++◌, length, take, drop, OnOk, OnErr};
 
+use std::alloc::AllocError;
 use std::marker::Model;
 
 /// The bytes of an Ethernet frame, from the destination address on, with no preamble and no frame
@@ -31,6 +32,35 @@ impl Frame {
         ensures { result.now ≡ self.now }
     {
         &self.bytes
+    }
+
+    /// The bytes, given back without taking memory.
+    pub fn into_bytes(self) -> Vec<u8>
+        ensures { result.items ≡ self }
+    {
+        self.bytes
+    }
+
+    /// Puts the piece in at a place; the bytes from there on follow it. Where there is no memory for it,
+    /// the frame stays as it was.
+    pub fn insert(&mut self, at: usize, piece: &[u8]) -> Result<(), AllocError>
+        requires { at ≤ length self.old }
+        ensures inserted { OnOk result (self.new ≡ take at self.old ++ piece.now ++ drop at self.old) }
+        ensures unchanged { OnErr result (self.new ≡ self.old) }
+    {
+        self.bytes.extend_from_slice(piece)?;
+        self.bytes[at..].rotate_right(piece.len());
+        Ok(())
+    }
+
+    /// Takes bytes away from a place on.
+    pub fn remove(&mut self, at: usize, count: usize)
+        requires { at + count ≤ length self.old }
+        ensures { self.new ≡ take at self.old ++ drop (at + count) self.old }
+    {
+        let left = self.bytes.len() - count;
+        self.bytes[at..].rotate_left(count);
+        self.bytes.truncate(left);
     }
 }
 

@@ -1,8 +1,32 @@
-//! Ethernet frames and what the elements of a chain read in them.
+//! Ethernet frames, the headers that are read in them, and the packets that the elements of a chain
+//! read and write. A header is 24 numbers; a packet is its bytes with a layer, a paint and an
+//! annotation; each checksum is mended where a field is written.
 #![tactic(auto)]
 
+mod bytes;
+mod cause;
+mod checksum;
+mod datagram;
+mod ethernet;
 mod field;
+mod flow;
 mod frame;
+mod header;
+mod layer;
+mod packet;
+mod span;
+mod visible;
+mod writes;
 
-pub use field::eth_type;
+pub use cause::Cause;
+pub use checksum::{ip_sum, l4_delta};
+pub use ethernet::eth_type;
+pub use field::{Field, HEADER_FIELDS, VISIBLE_FIELDS};
+pub use flow::Flow;
 pub use frame::{Frame, Stamped};
+pub use header::Header;
+pub use layer::Layer;
+pub use packet::Packet;
+pub use span::Span;
+pub use visible::Visible;
+pub use writes::Writes;

@@ -1,0 +1,12 @@
+//! The flow of a packet.
+
+/// A protocol (6 for TCP, 17 for UDP) and two ends: the source address and port, the destination
+/// address and port.
+#[derive(Clone, Copy, Debug, PartialEq, Eq)]
+pub struct Flow {
+    pub proto: u8,
+    pub sa: u32,
+    pub sp: u16,
+    pub da: u32,
+    pub dp: u16,
+}

@@ -1,0 +1,122 @@
+//! Writing the fields of an IPv4 packet in place, with its checksums.
+ghost use Rattle.std.specs.Prelude.{◌≡◌, ◌+◌, ◌<◌, ◌≤◌, ◌++◌, length, take, drop, true};
+ghost use Rattle.mt_packet.specs.Ipv4.{header_length, has_ports};
+ghost use Rattle.mt_packet.specs.Write.{HasHeader, checksum_place, with_header_checksum, with_transport_checksum, with_address, with_port, with_dscp, with_ttl, with_header_zero, with_tcp_zero};
+
+use crate::bytes::{two_bytes, write_four, write_two};
+use crate::checksum::{ip_sum, transport_delta};
+use crate::datagram::{Datagram, TCP, UDP, header_bytes};
+
+/// Writes the time to live.
+#[tactic(auto, unfolding(crate::specs::Write::with_ttl))]
+pub fn time_to_live(datagram: &mut [u8], value: u8)
+    requires { HasHeader datagram.old }
+    ensures { datagram.new ≡ with_ttl datagram.old value }
+{
+    datagram[8] = value;
+    write_header_checksum(datagram);
+}
+
+/// Writes the code point, which has at most six bits; the two bits beside it stay.
+#[tactic(auto, unfolding(crate::specs::Write::with_dscp))]
+pub fn code_point(datagram: &mut [u8], value: u8)
+    requires header { HasHeader datagram.old }
+    requires range { value ≤ 63 }
+    ensures { datagram.new ≡ with_dscp datagram.old value }
+{
+    datagram[1] = value * 4 + datagram[1] % 4;
+    write_header_checksum(datagram);
+}
+
+/// Writes an address of the header.
+#[tactic(auto, unfolding(crate::specs::Write::with_address))]
+pub fn address(datagram: &mut [u8], place: usize, value: u32)
+    requires header { HasHeader datagram.old }
+    requires low { 12 ≤ place }
+    requires high { place ≤ 16 }
+    ensures { datagram.new ≡ with_address datagram.old place value }
+{
+    let old = [two_bytes(datagram, place), two_bytes(datagram, place + 2)];
+    let new = [(value / 65_536) as u16, (value % 65_536) as u16];
+    write_four(datagram, place, value);
+    write_header_checksum(datagram);
+    mend_transport_checksum(datagram, &old, &new);
+}
+
+/// Writes a port of the transport header.
+#[tactic(auto, unfolding(crate::specs::Write::with_port))]
+pub fn port(datagram: &mut [u8], place: usize, value: u16)
+    requires { place + 1 < length datagram.old }
+    ensures { datagram.new ≡ with_port datagram.old place value }
+{
+    let old = [two_bytes(datagram, place)];
+    write_two(datagram, place, value);
+    mend_transport_checksum(datagram, &old, &[value]);
+}
+
+/// Writes the header checksum.
+#[tactic(auto, unfolding(crate::specs::Write::with_header_checksum))]
+fn write_header_checksum(datagram: &mut [u8])
+    requires { HasHeader datagram.old }
+    ensures { datagram.new ≡ with_header_checksum datagram.old }
+{
+    let header = header_bytes(datagram);
+    write_two(datagram, 10, 0);
+    let sum = ip_sum(&datagram[..header]);
+    write_two(datagram, 10, (0xFFFF - sum) % 0xFFFF);
+}
+
+/// The place of the transport checksum.
+#[tactic(auto, using(crate::proofs::Puts::checksum_within))]
+fn place_of_checksum(datagram: &[u8]) -> usize
+    requires { has_ports datagram.now ≡ true }
+    ensures place { result ≡ checksum_place datagram.now }
+    ensures within { result + 1 < length datagram.now }
+{
+    let header = header_bytes(datagram);
+    if Datagram::new(datagram).protocol() == UDP {
+        header + 6
+    } else {
+        header + 16
+    }
+}
+
+/// Changes the transport checksum by the words that were replaced.
+#[tactic(auto, unfolding(crate::specs::Write::with_transport_checksum))]
+fn mend_transport_checksum(datagram: &mut [u8], old: &[u16], new: &[u16])
+    ensures { datagram.new ≡ with_transport_checksum datagram.old old.now new.now }
+{
+    let ip = Datagram::new(datagram);
+    if !ip.has_ports() {
+        return;
+    }
+    let place = place_of_checksum(datagram);
+    let mended = transport_delta(ip.protocol(), two_bytes(datagram, place), old, new);
+    write_two(datagram, place, mended);
+}
+
+/// Writes a header checksum of 65,535 as 0.
+#[tactic(auto, unfolding(crate::specs::Write::with_header_zero))]
+pub fn write_header_zero(datagram: &mut [u8])
+    requires { 20 ≤ length datagram.old }
+    ensures { datagram.new ≡ with_header_zero datagram.old }
+{
+    if two_bytes(datagram, 10) == 0xFFFF {
+        write_two(datagram, 10, 0);
+    }
+}
+
+/// Writes a TCP checksum of 65,535 as 0, where ports are visible.
+#[tactic(auto, unfolding(crate::specs::Write::with_tcp_zero))]
+pub fn write_tcp_zero(datagram: &mut [u8])
+    ensures { datagram.new ≡ with_tcp_zero datagram.old }
+{
+    let ip = Datagram::new(datagram);
+    if !ip.has_ports() || ip.protocol() != TCP {
+        return;
+    }
+    let place = place_of_checksum(datagram);
+    if two_bytes(datagram, place) == 0xFFFF {
+        write_two(datagram, place, 0);
+    }
+}
