@@ -11,8 +11,43 @@ mod serve;
 pub use outcome::{Fault, FileId, Outcome};
 pub use run::metron;
 
+use mt_io::RealFiles;
+use std::alloc::Global;
+use std::env;
+use std::env::Env;
+use std::io;
+use std::io::ErrorKind;
 use std::process::ExitCode;
 
+/// The status of a run whose words are no command; a word that is no text is none.
+const MISUSED: u8 = 1;
+
+/// The status of a run for which there is no memory.
+const NO_MEMORY: u8 = 7;
+
+/// The status of a run of which a write failed.
+const NOT_WRITTEN: u8 = 6;
+
+/// Ends with the status of the run. It prints nothing.
 fn main(rt: HostRuntime) -> ExitCode {
-    ExitCode::SUCCESS
+    let words = match words(&rt, rt.alloc()) {
+        Ok(words) => words,
+        Err(error) if error.kind() == ErrorKind::InvalidData => return ExitCode::from(MISUSED),
+        Err(_) => return ExitCode::from(NO_MEMORY),
+    };
+    let mut files = RealFiles::new(&rt, rt.alloc());
+    let outcome = metron(rt.alloc(), &words, &mut files);
+    match files.finish() {
+        Ok(()) => ExitCode::from(outcome.status),
+        Err(_) => ExitCode::from(NOT_WRITTEN),
+    }
+}
+
+/// The words behind the program's own name.
+fn words(rt: &(impl Env + AllocGlobal), alloc: Global) -> io::Result<Vec<String>> {
+    let mut words = Vec::new(alloc);
+    for word in env::args(rt)?.skip(1) {
+        words.push(word)?;
+    }
+    Ok(words)
 }
