@@ -1,5 +1,5 @@
 -- A file in memory, and what one call makes of it.
-use Rattle.std.specs.Prelude.{ℕ, ◌+◌, ◌-◌, ◌^◌, ◌==◌, min, Bool, true, false, not, ◌||◌, List, [], ◌∷◌, ◌++◌, drop, Option, unwrap_or}
+use Rattle.std.specs.Prelude.{ℕ, ◌+◌, ◌-◌, ◌^◌, ◌==◌, min, Bool, true, false, not, ◌||◌, List, [], ◌∷◌, ◌++◌, drop}
 use Rattle.std.specs.List.{list_any}
 use Rattle.mt_io.specs.declared.entry.Call.{Call}
 use Rattle.mt_io.specs.declared.entry.Call.TheVariants.{Read, Write}
