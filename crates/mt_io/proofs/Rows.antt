@@ -1,6 +1,6 @@
 -- The definitions at small files.
-use Rattle.std.proofs.Common.{◌≡◌, ◌<◌, ◌≤◌, Bool, true, false, [], ◌∷◌, Some, None, refl, lit<, lit≤}
-use Rattle.mt_io.specs.declared.entry.Call.TheVariants.{Read, Write}
+use Rattle.std.proofs.Common.{◌≡◌, true, false, [], ◌∷◌, Some, refl, lit<, lit≤}
+use Rattle.mt_io.specs.declared.entry.Call.TheVariants.{Read}
 use Rattle.mt_io.specs.Files.{Takes, Gains, Rose}
 use Rattle.mt_io.specs.Copy.{GainsFront, IsWhole, IsLongerThan}
 use Rattle.mt_io.specs.State.{FileState, one_more, unnamed, fails_read, fails_write, after_read, after_failed_read, after_write, after_failed_write, after_hold, after_fail}

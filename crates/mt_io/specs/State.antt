@@ -1,5 +1,6 @@
 -- A file in memory, and what one call makes of it.
-use Rattle.std.specs.Prelude.{ℕ, ◌+◌, ◌-◌, ◌^◌, ◌==◌, min, Bool, true, false, not, ◌||◌, List, [], ◌∷◌, ◌++◌, drop, Option, unwrap_or}
+use Rattle.std.specs.Prelude.{ℕ, ◌+◌, ◌-◌, ◌^◌, ◌==◌, min, Bool, true, false, not, ◌||◌, List, [], ◌∷◌, ◌++◌, drop, String, unwrap_or}
+use Rattle.std.specs.BTreeMap.{BTreeMap, get_by_text}
 use Rattle.std.specs.List.{list_any}
 use Rattle.mt_io.specs.declared.entry.Call.{Call}
 use Rattle.mt_io.specs.declared.entry.Call.TheVariants.{Read, Write}
@@ -24,6 +25,10 @@ pub record FileState : Type 0 where
 -- a name of which nothing was said yet
 abbrev pub unnamed : FileState
 unnamed = record { is_held = false; left = []; written = []; reads = 0; writes = 0; read_faults = 0; write_faults = 0; failing_reads = []; failing_writes = [] }
+
+-- the file of a name in a map, or one of which nothing was said yet
+abbrev pub state_in : {Y : Type 0} → BTreeMap (String Y) FileState → List ℕ → FileState
+state_in files name = unwrap_or (get_by_text files name) unnamed
 
 -- the next read fails: its number is in the list, or the name was never held
 abbrev pub fails_read : FileState → Bool

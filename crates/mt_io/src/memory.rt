@@ -1,8 +1,8 @@
 //! Files in memory, that tell everything and fail where they are told to.
-ghost use Rattle.std.specs.Prelude.{◌≡◌, ◌≤◌, ◌⊎◌, ◌+◌, ◌++◌, [], ℕ, List, Some, None, false, length, take, drop, min, unwrap_or, true, IfOk, OnOk, OnErr, IsSome};
+ghost use Rattle.std.specs.Prelude.{◌≡◌, ◌≤◌, ◌⊎◌, ◌+◌, ◌++◌, [], ℕ, List, Some, None, false, length, take, drop, min, true, IfOk, OnOk, OnErr, IsSome};
 ghost use Rattle.std.specs.BTreeMap.{get_by_text};
 ghost use Rattle.mt_io.specs.Files.{IsSame, IsSameBut, NeverFell};
-ghost use Rattle.mt_io.specs.State.{unnamed, fails_read, fails_write, after_read, after_failed_read, after_write, after_failed_write, after_hold, after_fail};
+ghost use Rattle.mt_io.specs.State.{state_in, fails_read, fails_write, after_read, after_failed_read, after_write, after_failed_write, after_hold, after_fail};
 
 use crate::entry::Entry;
 use crate::{Call, Failed, Files};
@@ -80,10 +80,10 @@ impl MemoryFiles {
 
 // Has the counters of a name stand.
 fn stand(alloc: Global, entries: &mut BTreeMap<String, Entry>, name: &str) -> Result<(), AllocError>
-    ensures ok { OnOk result (get_by_text entries.new name.now ≡ Some (unwrap_or (get_by_text entries.old name.now) unnamed)) }
+    ensures ok { OnOk result (get_by_text entries.new name.now ≡ Some (state_in entries.old name.now)) }
     ensures first { OnErr result (get_by_text entries.old name.now ≡ None) }
     ensures err { OnErr result (IsSame (get_by_text entries.old) (get_by_text entries.new)) }
-    ensures state { unwrap_or (get_by_text entries.new name.now) unnamed ≡ unwrap_or (get_by_text entries.old name.now) unnamed }
+    ensures state { state_in entries.new name.now ≡ state_in entries.old name.now }
     ensures others { IsSameBut name.now (get_by_text entries.old) (get_by_text entries.new) }
 {
     if !entries.contains_key(name) {
@@ -95,7 +95,7 @@ fn stand(alloc: Global, entries: &mut BTreeMap<String, Entry>, name: &str) -> Re
 
 fn hold_entry(entries: &mut BTreeMap<String, Entry>, name: &str, text: Vec<u8>)
     requires { IsSome (get_by_text entries.old name.now) }
-    ensures after { get_by_text entries.new name.now ≡ Some (after_hold text.items (unwrap_or (get_by_text entries.old name.now) unnamed)) }
+    ensures after { get_by_text entries.new name.now ≡ Some (after_hold text.items (state_in entries.old name.now)) }
     ensures others { IsSameBut name.now (get_by_text entries.old) (get_by_text entries.new) }
 {
     if let Some(entry) = entries.get_mut(name) {
@@ -110,7 +110,7 @@ fn fail_entry(
     call: Call,
     number: u64,
 ) -> Result<(), AllocError>
-    ensures ok { OnOk result (get_by_text entries.new name.now ≡ Some (after_fail call number (unwrap_or (get_by_text entries.old name.now) unnamed))) }
+    ensures ok { OnOk result (get_by_text entries.new name.now ≡ Some (after_fail call number (state_in entries.old name.now))) }
     ensures err { OnErr result (IsSame (get_by_text entries.old) (get_by_text entries.new)) }
     ensures others { IsSameBut name.now (get_by_text entries.old) (get_by_text entries.new) }
 {
@@ -130,15 +130,15 @@ fn read_entry(
     buf: &mut [u8],
 ) -> Result<usize, Failed>
     requires { IsSome (get_by_text entries.old name.now) }
-    ensures passes { OnOk result (fails_read (unwrap_or (get_by_text entries.old name.now) unnamed) ≡ false) }
-    ensures count { IfOk result (λ n. n ≡ min (length buf.old) (length (unwrap_or (get_by_text entries.old name.now) unnamed).left)) }
-    ensures bytes { IfOk result (λ n. buf.new ≡ take n (unwrap_or (get_by_text entries.old name.now) unnamed).left ++ drop n buf.old) }
-    ensures after { IfOk result (λ n. get_by_text entries.new name.now ≡ Some (after_read n (unwrap_or (get_by_text entries.old name.now) unnamed))) }
-    ensures fails { OnErr result (fails_read (unwrap_or (get_by_text entries.old name.now) unnamed) ≡ true) }
-    ensures failed { OnErr result (get_by_text entries.new name.now ≡ Some (after_failed_read (unwrap_or (get_by_text entries.old name.now) unnamed))) }
+    ensures passes { OnOk result (fails_read (state_in entries.old name.now) ≡ false) }
+    ensures count { IfOk result (λ n. n ≡ min (length buf.old) (length (state_in entries.old name.now).left)) }
+    ensures bytes { IfOk result (λ n. buf.new ≡ take n (state_in entries.old name.now).left ++ drop n buf.old) }
+    ensures after { IfOk result (λ n. get_by_text entries.new name.now ≡ Some (after_read n (state_in entries.old name.now))) }
+    ensures fails { OnErr result (fails_read (state_in entries.old name.now) ≡ true) }
+    ensures failed { OnErr result (get_by_text entries.new name.now ≡ Some (after_failed_read (state_in entries.old name.now))) }
     ensures no_bytes { OnErr result (buf.new ≡ buf.old) }
-    ensures written { (unwrap_or (get_by_text entries.new name.now) unnamed).written ≡ (unwrap_or (get_by_text entries.old name.now) unnamed).written }
-    ensures read_faults { (unwrap_or (get_by_text entries.old name.now) unnamed).read_faults ≤ (unwrap_or (get_by_text entries.new name.now) unnamed).read_faults }
+    ensures written { (state_in entries.new name.now).written ≡ (state_in entries.old name.now).written }
+    ensures read_faults { (state_in entries.old name.now).read_faults ≤ (state_in entries.new name.now).read_faults }
     ensures others { IsSameBut name.now (get_by_text entries.old) (get_by_text entries.new) }
 {
     match entries.get_mut(name) {
@@ -153,12 +153,12 @@ fn write_entry(
     piece: &[u8],
 ) -> Result<usize, Failed>
     requires { IsSome (get_by_text entries.old name.now) }
-    ensures passes { OnOk result (fails_write (unwrap_or (get_by_text entries.old name.now) unnamed) ≡ false) }
+    ensures passes { OnOk result (fails_write (state_in entries.old name.now) ≡ false) }
     ensures count { IfOk result (λ n. n ≡ length piece.now) }
-    ensures after { OnOk result (get_by_text entries.new name.now ≡ Some (after_write piece.now (unwrap_or (get_by_text entries.old name.now) unnamed))) }
-    ensures failed { OnErr result (get_by_text entries.new name.now ≡ Some (after_failed_write (unwrap_or (get_by_text entries.old name.now) unnamed))) }
-    ensures left { (unwrap_or (get_by_text entries.new name.now) unnamed).left ≡ (unwrap_or (get_by_text entries.old name.now) unnamed).left }
-    ensures write_faults { (unwrap_or (get_by_text entries.old name.now) unnamed).write_faults ≤ (unwrap_or (get_by_text entries.new name.now) unnamed).write_faults }
+    ensures after { OnOk result (get_by_text entries.new name.now ≡ Some (after_write piece.now (state_in entries.old name.now))) }
+    ensures failed { OnErr result (get_by_text entries.new name.now ≡ Some (after_failed_write (state_in entries.old name.now))) }
+    ensures left { (state_in entries.new name.now).left ≡ (state_in entries.old name.now).left }
+    ensures write_faults { (state_in entries.old name.now).write_faults ≤ (state_in entries.new name.now).write_faults }
     ensures others { IsSameBut name.now (get_by_text entries.old) (get_by_text entries.new) }
 {
     match entries.get_mut(name) {

@@ -136,18 +136,17 @@ fn read_from<R: SystemFiles>(
 ) -> io::Result<usize>
     ensures { IfOk result (λ n. n ≤ length buf.old) }
 {
-    if !sources.contains_key(name) {
-        let reader = BufReader::with_capacity(alloc, BUFFER, File::open(system, name)?)?;
-        let source = Source {
-            reader,
-            is_at_end: false,
-        };
-        sources.insert(String::from_str(alloc, name)?, source)?;
+    if let Some(source) = sources.get_mut(name) {
+        return source.read(buf);
     }
-    match sources.get_mut(name) {
-        Some(source) => source.read(buf),
-        None => Ok(0),
-    }
+    let reader = BufReader::with_capacity(alloc, BUFFER, File::open(system, name)?)?;
+    let mut source = Source {
+        reader,
+        is_at_end: false,
+    };
+    let count = source.read(buf)?;
+    sources.insert(String::from_str(alloc, name)?, source)?;
+    Ok(count)
 }
 
 impl<F: Read + Drop> Source<F> {
@@ -172,15 +171,16 @@ fn write_to<R: SystemFiles + Print + Clone + Drop>(
 ) -> io::Result<usize>
     ensures { IfOk result (λ n. n ≤ length piece.now) }
 {
-    if !sinks.contains_key(name) {
-        let sink = if name == OUTPUT {
-            Sink::Output(system.clone()?)
-        } else {
-            Sink::File(File::create(system, name)?)
-        };
-        let writer = BufWriter::with_capacity(alloc, BUFFER, sink)?;
-        sinks.insert(String::from_str(alloc, name)?, writer)?;
+    if let Some(writer) = sinks.get_mut(name) {
+        return writer.write(piece);
     }
+    let sink = if name == OUTPUT {
+        Sink::Output(system.clone()?)
+    } else {
+        Sink::File(File::create(system, name)?)
+    };
+    let writer = BufWriter::with_capacity(alloc, BUFFER, sink)?;
+    sinks.insert(String::from_str(alloc, name)?, writer)?;
     match sinks.get_mut(name) {
         Some(writer) => writer.write(piece),
         None => Ok(0),
