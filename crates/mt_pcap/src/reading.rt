@@ -1,6 +1,6 @@
 //! Reading a capture.
-ghost use Rattle.std.specs.Prelude.{◌≡◌, ℕ, ◌<◌, ◌≤◌, ◌/◌, ◌*◌, ◌+◌, ◌^◌, length, All, IfOk, MatchResult, Ok, Err, drop};
-ghost use Rattle.mt_pcap.specs.Format.{number, nanoseconds_in};
+ghost use Rattle.std.specs.Prelude.{◌≡◌, ℕ, ◌<◌, ◌≤◌, ◌/◌, ◌*◌, ◌+◌, ◌^◌, length, All, IfOk, MatchResult, Ok, Err, drop, nat_le, nat_lt, ◌||◌};
+ghost use Rattle.mt_pcap.specs.Format.{number, nanoseconds_in, second, longest};
 ghost use Rattle.mt_pcap.specs.Capture.{capture_of, header_of, record_at, all_records};
 ghost use Rattle.mt_pcap.specs.Facts.{IsOfBytes};
 
@@ -58,6 +58,15 @@ struct RecordHead {
     captured: u32,
 }
 
+impl RecordHead {
+    /// Whether the fraction is a second or more, or the frame is too long.
+    fn is_improper(&self) -> bool
+        ensures { result ≡ (nat_le second self.now.fraction || nat_lt longest self.now.captured) }
+    {
+        self.fraction >= SECOND || self.captured > LONGEST
+    }
+}
+
 /// The head at the front of the bytes. How long the frame was on the wire, its last number, is not
 /// looked at.
 fn head_of(form: Form, bytes: &[u8]) -> RecordHead
@@ -87,7 +96,7 @@ fn record_at(form: Form, offset: u64, bytes: &[u8]) -> Result<(u64, &[u8], &[u8]
         return Err(PcapFault::Torn(offset));
     }
     let head = head_of(form, bytes);
-    if head.fraction >= SECOND || head.captured > LONGEST {
+    if head.is_improper() {
         return Err(PcapFault::BadRecord(offset));
     }
     let behind = &bytes[HEAD_LENGTH..];
