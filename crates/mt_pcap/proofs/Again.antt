@@ -1,22 +1,19 @@
 -- Bytes stand for one capture only, and what is written is read back.
-use Rattle.std.proofs.Common.{◌≡◌, ℕ, zero, suc, ◌+◌, ◌-◌, ◌*◌, ◌/◌, ◌%◌, ◌^◌, ◌<◌, ◌≤◌, ◌⊎◌, inl, inr, List, [], ◌∷◌, ◌++◌, length, take, drop, map, Option, Some, None, Result, Ok, Err, All, refl, sym, ap, subst, ◌∙◌, append_assoc, arith}
+use Rattle.std.proofs.Common.{◌≡◌, ℕ, ◌+◌, ◌-◌, ◌*◌, ◌/◌, ◌%◌, ◌<◌, ◌≤◌, inl, inr, List, [], ◌∷◌, ◌++◌, length, drop, map, Option, Some, None, Ok, All, refl, sym, ap, subst, ◌∙◌, append_assoc, arith}
 use Rattle.std.specs.List.{flat_map, AllByRecursion}
 use Rattle.std.proofs.lemmas.List.{append-nil, length-append, length-drop, take_at, drop_at}
 use Rattle.std.proofs.lemmas.List.Elements.{All-head, All-tail}
-use Rattle.std.proofs.lemmas.Nat.{div-add-mod'}
 use Rattle.std.proofs.Math.Nat.{mod-lt}
-use Rattle.mt_pcap.specs.declared.form.Order.TheVariants.{Little}
-use Rattle.mt_pcap.specs.declared.form.Resolution.TheVariants.{Nanoseconds}
 use Rattle.mt_pcap.specs.declared.form.Form.{Form}
 use Rattle.mt_pcap.specs.declared.fault.PcapFault.{PcapFault}
 use Rattle.mt_pcap.specs.declared.fault.PcapFault.TheVariants.{ReadFault, NotPcap, WrongLink, Torn, BadRecord, NoMemory}
-use Rattle.mt_pcap.specs.Format.{number, four, nanoseconds_in, Header, header_bytes, link_type, Head, head_bytes, Fits, fraction_of, Record, record_bytes, IsRecord, told, EndsAs, IsCutHead, IsCutData, IsBad, second, longest}
-use Rattle.mt_pcap.specs.Capture.{Capture, record_at, form_of, header_of, ended, onwards, all_records, capture_of}
+use Rattle.mt_pcap.specs.Format.{number, nanoseconds_in, header_bytes, Head, head_bytes, Fits, fraction_of, Record, record_bytes, IsRecord, told, EndsAs, IsCutData, IsBad, second}
+use Rattle.mt_pcap.specs.Capture.{Capture, record_at, ended, all_records, capture_of}
 use Rattle.mt_pcap.specs.Text.{own_form, own_header, header_text, own_head, record_head_text, record_text, capture_text}
 use Rattle.mt_pcap.specs.Laws.{IsOfRecords, IsOfOtherLink, IsOfNoHeader, StandsFor, IsWritable}
 use Rattle.mt_pcap.proofs.Numbers.{IsBytes, IsBytes-from_all, number-four}
-use Rattle.mt_pcap.proofs.Headers.{HeaderCase, too_short, unknown, other_link, ethernet, header_case, link_in, magic_is, at_other_link, at_ethernet}
-use Rattle.mt_pcap.proofs.Heads.{Reads, length-head_bytes, head_again, ReadsHeader, header_again, header_split}
+use Rattle.mt_pcap.proofs.Headers.{too_short, unknown, other_link, ethernet, header_case, link_in, magic_is, at_other_link, at_ethernet}
+use Rattle.mt_pcap.proofs.Heads.{length-head_bytes, head_again, header_again, header_split}
 use Rattle.mt_pcap.proofs.Records.{at_cut_head, at_bad, at_cut_data, at_whole, captured, fraction, whole_record, records-end, records-fault, records-next}
 use Rattle.mt_pcap.proofs.Stands.{capture-fault, capture-records, written_header}
 
@@ -90,7 +87,9 @@ of_records bytes capture is =
     let at : length bytes - length is.rest ≡ 24 + length (flat_map (record_bytes h.form) is.written)
     = omega (arith, ap length rest, length-drop 24 bytes, w.0, length-append (flat_map (record_bytes h.form) is.written) is.rest) in
     let found = records_again h.form 24 is.written is.rest capture.end is.proper (subst (λ (n : ℕ). EndsAs h.form n is.rest capture.end) at is.end) in
-    let whole : capture_of bytes ≡ record { records = map (told h.form) is.written; end = capture.end } = capture-records bytes h.form read ∙ ap (all_records h.form 24) rest ∙ found in
+    let from_header : capture_of bytes ≡ all_records h.form 24 (drop 24 bytes) = capture-records bytes h.form read in
+    let from_there : all_records h.form 24 (drop 24 bytes) ≡ all_records h.form 24 behind = ap (all_records h.form 24) rest in
+    let whole : capture_of bytes ≡ record { records = map (told h.form) is.written; end = capture.end } = from_header ∙ from_there ∙ found in
     ap (λ (rs : List (ℕ × List ℕ)). record { records = rs; end = capture.end }) is.records ∙ sym whole
 
 of_other_link : (bytes : List ℕ) (capture : Capture) → IsOfOtherLink bytes capture → capture ≡ capture_of bytes
@@ -151,7 +150,7 @@ own_fit (r ∷ records) all =
     )
 
 pub reads_back : (records : List (ℕ × List ℕ)) → All IsWritable records → capture_of (capture_text records) ≡ record { records = records; end = None }
-unfolding capture_text header_text
+unfolding header_text
 reads_back records all =
     let parts : capture_text records ≡ header_bytes own_header ++ (flat_map (record_bytes own_form) (map own_record records) ++ [])
     = ap (λ (l : List ℕ). header_bytes own_header ++ l) (sym (own_bytes records) ∙ sym (append-nil (flat_map (record_bytes own_form) (map own_record records)))) in

@@ -1,5 +1,5 @@
 -- What is true of each capture that is read.
-use Rattle.std.proofs.Common.{◌≡◌, ℕ, zero, suc, ◌+◌, ◌-◌, ◌*◌, ◌/◌, ◌^◌, ◌<◌, ◌≤◌, inl, inr, List, [], ◌∷◌, length, drop, Option, Some, None, Result, Ok, Err, All, refl, sym, ap, subst, ◌∙◌, arith}
+use Rattle.std.proofs.Common.{◌≡◌, ℕ, zero, suc, ◌+◌, ◌*◌, ◌/◌, ◌^◌, ◌<◌, ◌≤◌, inl, inr, List, length, drop, Option, Some, None, Result, Ok, Err, All, refl, sym, ap, subst, ◌∙◌, arith}
 use Rattle.std.proofs.lemmas.Bool.{cases_lt}
 use Rattle.std.proofs.lemmas.Nat.{div-mul-add}
 use Rattle.std.proofs.lemmas.List.{length-drop}
@@ -7,13 +7,13 @@ use Rattle.std.proofs.lemmas.List.Elements.{All-nil, All-cons, All-weaker, All-s
 use Rattle.mt_pcap.specs.declared.form.Form.{Form}
 use Rattle.mt_pcap.specs.declared.fault.PcapFault.{PcapFault}
 use Rattle.mt_pcap.specs.declared.fault.PcapFault.TheVariants.{NotPcap, WrongLink, Torn, BadRecord}
-use Rattle.mt_pcap.specs.Format.{number, second, longest}
+use Rattle.mt_pcap.specs.Format.{second, longest}
 use Rattle.mt_pcap.specs.Capture.{Capture, record_at, header_of, ended, onwards, records_of, all_records, with_header, capture_of}
 use Rattle.mt_pcap.specs.Laws.{IsWritable}
 use Rattle.mt_pcap.specs.Facts.{IsOfBytes}
-use Rattle.mt_pcap.proofs.Headers.{HeaderCase, too_short, unknown, other_link, ethernet, header_case, link_in}
+use Rattle.mt_pcap.proofs.Headers.{too_short, unknown, other_link, ethernet, header_case, link_in}
 use Rattle.mt_pcap.proofs.Numbers.{IsBytes, IsBytes-drop, number-lt}
-use Rattle.mt_pcap.proofs.Records.{Case, cut_head, bad, cut_data, whole, case_of, Took, took, at_zero, at_end, at_some, captured, fraction, seconds, whole_record}
+use Rattle.mt_pcap.proofs.Records.{cut_head, bad, cut_data, whole, case_of, Took, took, at_zero, at_end, at_some, captured, fraction, seconds}
 
 -- what is true of the records of bytes
 pub record Sound (bytes : List ℕ) (capture : Capture) : Type 0 where

@@ -1,15 +1,14 @@
 -- How the header of a capture is read: the four cases, and what a magic number tells.
-use Rattle.std.proofs.Common.{◌≡◌, ◌≢◌, ℕ, ◌+◌, ◌%◌, ◌<◌, ◌≤◌, ◌⊎◌, inl, inr, Bool, true, false, cond, eqb, List, [], ◌∷◌, ◌++◌, length, drop, Option, Some, None, Result, Ok, Err, refl, sym, ap, ◌∙◌, arith}
+use Rattle.std.proofs.Common.{◌≡◌, ◌≢◌, ℕ, ◌%◌, ◌<◌, ◌≤◌, inl, inr, Bool, true, false, cond, eqb, List, ◌++◌, length, drop, Option, Some, None, Ok, Err, refl, ◌∙◌}
 use Rattle.std.proofs.lemmas.Bool.{cases_lt, cases_eq, lt-ltb, le-ltb, eq-eqb, ne_eqb, eqb-true}
 use Rattle.mt_pcap.specs.declared.form.Order.{Order}
 use Rattle.mt_pcap.specs.declared.form.Order.TheVariants.{Big, Little}
 use Rattle.mt_pcap.specs.declared.form.Resolution.{Resolution}
 use Rattle.mt_pcap.specs.declared.form.Resolution.TheVariants.{Microseconds, Nanoseconds}
 use Rattle.mt_pcap.specs.declared.form.Form.{Form}
-use Rattle.mt_pcap.specs.declared.fault.PcapFault.{PcapFault}
 use Rattle.mt_pcap.specs.declared.fault.PcapFault.TheVariants.{NotPcap, WrongLink}
 use Rattle.mt_pcap.specs.Format.{number, four, magic}
-use Rattle.mt_pcap.specs.Capture.{resolution_of, form_with, form_in, or_else, form_of, linked, header_of}
+use Rattle.mt_pcap.specs.Capture.{resolution_of, form_with, form_in, or_else, form_of, header_of}
 
 -- the low 16 bits of the link type
 abbrev pub link_in : Form → List ℕ → ℕ

@@ -1,11 +1,11 @@
 -- Heads and headers as bytes: what is written is read, and the bytes of a file are one that was
 -- written.
-use Rattle.std.proofs.Common.{◌≡◌, ℕ, zero, suc, ◌+◌, ◌*◌, ◌%◌, ◌^◌, ◌<◌, ◌≤◌, List, [], ◌∷◌, ◌++◌, length, drop, refl, sym, ap, ◌∙◌, append_assoc, arith}
-use Rattle.std.proofs.lemmas.List.{length-append, length-drop, drop-drop, drop_at}
+use Rattle.std.proofs.Common.{◌≡◌, ℕ, ◌+◌, ◌≤◌, List, ◌++◌, length, drop, refl, sym, ap, ◌∙◌, append_assoc, arith}
+use Rattle.std.proofs.lemmas.List.{length-append, length-drop, drop-drop}
 use Rattle.mt_pcap.specs.declared.form.Order.{Order}
 use Rattle.mt_pcap.specs.declared.form.Form.{Form}
 use Rattle.mt_pcap.specs.Format.{number, four, two, magic, Header, header_bytes, Head, head_bytes, Fits}
-use Rattle.mt_pcap.proofs.Numbers.{IsBytes, IsBytes-drop, length-four, length-two, number-four, number-lt, four_split, two_split, drop-four, drop-two}
+use Rattle.mt_pcap.proofs.Numbers.{IsBytes, IsBytes-drop, length-four, number-four, number-lt, four_split, two_split, drop-four, drop-two}
 
 -- a head and what is behind it, number by number
 regroup : (order : Order) (h : Head) (rest : List ℕ) → head_bytes order h ++ rest ≡ four order h.seconds ++ (four order h.fraction ++ (four order h.captured ++ (four order h.original ++ rest)))

@@ -1,7 +1,8 @@
 -- How records are read: the four cases at a record, and how a capture goes on from one to the next.
-use Rattle.std.proofs.Common.{◌≡◌, ℕ, zero, suc, ◌+◌, ◌-◌, ◌*◌, ◌<◌, ◌≤◌, ◌⊎◌, inl, inr, Bool, true, false, cond, ltb, leb, List, [], ◌∷◌, ◌++◌, length, take, drop, Option, Some, None, Result, Ok, Err, refl, sym, ap, ◌∙◌, append_assoc, arith}
-use Rattle.std.proofs.lemmas.Bool.{cases_lt, lt-ltb, le-ltb, le-leb, lt-leb, eq-eqb, ne_eqb, or_left, or_right, or_from}
-use Rattle.std.proofs.lemmas.List.{append-nil, length-drop, length-take-le, nil_from_length}
+use Rattle.std.proofs.Common.{false, ◌≡◌, ℕ, zero, suc, ◌+◌, ◌-◌, ◌*◌, ◌<◌, ◌≤◌, ◌⊎◌, inl, inr, ltb, leb, List, [], length, take, drop, Some, None, Result, Ok, Err, refl, sym, ap, ◌∙◌, arith}
+use Rattle.std.specs.Prelude.{◌||◌}
+use Rattle.std.proofs.lemmas.Bool.{cases_lt, lt-ltb, le-ltb, le-leb, lt-leb, eq-eqb, ne_eqb, or_left, or_right, or_from, or_parts, leb-false, ltb-false}
+use Rattle.std.proofs.lemmas.List.{length-drop, length-take-le}
 use Rattle.mt_pcap.specs.declared.form.Form.{Form}
 use Rattle.mt_pcap.specs.declared.fault.PcapFault.{PcapFault}
 use Rattle.mt_pcap.specs.declared.fault.PcapFault.TheVariants.{Torn, BadRecord}
@@ -49,6 +50,15 @@ pub at_whole : (form : Form) (offset : ℕ) (bytes : List ℕ) → 16 ≤ length
 unfolding record_at
 at_whole form offset bytes long early fits enough =
     rw (le-ltb (length bytes) 16 long, or_from _ _ (lt-leb second (fraction form bytes) early) (le-ltb longest (captured form bytes) fits), le-ltb (length (drop 16 bytes)) (captured form bytes) enough) refl
+
+-- a whole record, with its parts by names
+pub reads_whole : (form : Form) (offset : ℕ) (bytes : List ℕ) (s f n : ℕ) (front back : List ℕ) → 16 ≤ length bytes → s ≡ seconds form bytes → f ≡ fraction form bytes → n ≡ captured form bytes
+    → (leb second f || ltb longest n) ≡ false → n ≤ length (drop 16 bytes) → front ≡ take n (drop 16 bytes) → back ≡ drop n (drop 16 bytes)
+    → record_at form offset bytes ≡ Ok ((s * second + f, front), back)
+reads_whole form offset bytes s f n front back long s_is f_is n_is proper enough front_is back_is =
+    let p = or_parts (leb second f) (ltb longest n) proper in
+    let read = at_whole form offset bytes long (rw (← f_is) (leb-false second f p.0)) (rw (← n_is) (ltb-false longest n p.1)) (rw (← n_is) enough) in
+    rw (s_is, f_is, front_is, back_is, n_is) read
 
 -- the case of these bytes
 pub case_of : (form : Form) (offset : ℕ) (bytes : List ℕ) → Case form offset bytes

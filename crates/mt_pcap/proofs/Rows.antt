@@ -1,11 +1,10 @@
 -- The definitions, worked on small captures.
-use Rattle.std.proofs.Common.{◌≡◌, ℕ, ◌+◌, ◌-◌, ◌*◌, cond, List, [], ◌∷◌, ◌++◌, Option, Some, None, refl}
+use Rattle.std.proofs.Common.{◌≡◌, ℕ, ◌+◌, ◌-◌, ◌*◌, cond, List, [], ◌∷◌, ◌++◌, Some, None, refl}
 use Rattle.std.specs.Prelude.{codes, nat_lt}
-use Rattle.mt_pcap.specs.declared.fault.PcapFault.{PcapFault}
 use Rattle.mt_pcap.specs.declared.fault.PcapFault.TheVariants.{NotPcap, WrongLink, BadRecord, Torn}
 use Rattle.mt_pcap.specs.Format.{number, four, two, magic, nanoseconds_in, header_bytes, head_bytes}
-use Rattle.mt_pcap.specs.Capture.{Capture, resolution_of, form_in, form_of, header_of, record_at, records_of, all_records, capture_of}
-use Rattle.mt_pcap.specs.Text.{header_text, record_head_text, capture_text}
+use Rattle.mt_pcap.specs.Capture.{resolution_of, form_in, form_of, header_of, record_at, records_of, all_records, capture_of}
+use Rattle.mt_pcap.specs.Text.{header_text, record_head_text}
 
 -- the bytes that a text in hexadecimal stands for
 abbrev digit : ℕ → ℕ

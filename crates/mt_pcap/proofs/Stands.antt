@@ -1,18 +1,18 @@
 -- All bytes stand for what is read of them.
-use Rattle.std.proofs.Common.{◌≡◌, ℕ, zero, suc, ◌+◌, ◌-◌, ◌*◌, ◌%◌, ◌<◌, ◌≤◌, ◌⊎◌, inl, inr, List, [], ◌∷◌, ◌++◌, length, take, drop, map, Option, Some, None, Result, Ok, Err, All, refl, sym, ap, subst, ◌∙◌, append_assoc, arith}
+use Rattle.std.proofs.Common.{◌≡◌, ℕ, zero, suc, ◌+◌, ◌-◌, ◌%◌, ◌<◌, ◌≤◌, inl, inr, List, [], ◌∷◌, ◌++◌, length, take, drop, map, Option, Some, None, Result, Ok, Err, All, refl, sym, ap, subst, ◌∙◌, append_assoc, arith}
 use Rattle.std.specs.List.{flat_map, AllByRecursion}
 use Rattle.std.proofs.lemmas.Bool.{cases_lt}
-use Rattle.std.proofs.lemmas.List.{append-nil, length-append, length-drop, take-append-drop, nil_from_length}
+use Rattle.std.proofs.lemmas.List.{length-drop, take-append-drop, nil_from_length}
 use Rattle.mt_pcap.specs.declared.form.Form.{Form}
 use Rattle.mt_pcap.specs.declared.fault.PcapFault.{PcapFault}
 use Rattle.mt_pcap.specs.declared.fault.PcapFault.TheVariants.{NotPcap, WrongLink, Torn, BadRecord}
-use Rattle.mt_pcap.specs.Format.{number, magic, Header, header_bytes, head_bytes, Record, record_bytes, IsRecord, told, EndsAs, IsCutData, IsBad, second, longest}
-use Rattle.mt_pcap.specs.Capture.{Capture, record_at, form_of, header_of, ended, onwards, records_of, all_records, with_header, capture_of}
-use Rattle.mt_pcap.specs.Laws.{IsOfRecords, IsOfOtherLink, IsOfNoHeader, StandsFor}
+use Rattle.mt_pcap.specs.Format.{Header, header_bytes, head_bytes, Record, record_bytes, IsRecord, told, EndsAs}
+use Rattle.mt_pcap.specs.Capture.{Capture, record_at, form_of, header_of, ended, onwards, records_of, all_records, capture_of}
+use Rattle.mt_pcap.specs.Laws.{StandsFor}
 use Rattle.mt_pcap.proofs.Numbers.{IsBytes, IsBytes-from_all, IsBytes-drop, number-lt}
-use Rattle.mt_pcap.proofs.Headers.{HeaderCase, too_short, unknown, other_link, ethernet, header_case, link_in, magic_is, form_of-magic}
-use Rattle.mt_pcap.proofs.Heads.{head_of, head_of-fits, head_split, ReadsHeader, header_again, header_split}
-use Rattle.mt_pcap.proofs.Records.{Case, cut_head, bad, cut_data, whole, case_of, Took, took, at_zero, at_end, at_some, captured, fraction, seconds, whole_record}
+use Rattle.mt_pcap.proofs.Headers.{too_short, unknown, other_link, ethernet, header_case, link_in, magic_is, form_of-magic}
+use Rattle.mt_pcap.proofs.Heads.{head_of, head_of-fits, head_split, header_again, header_split}
+use Rattle.mt_pcap.proofs.Records.{cut_head, bad, cut_data, whole, case_of, Took, took, at_zero, at_end, at_some, captured}
 use Rattle.mt_pcap.proofs.Facts.{rest_bytes}
 
 -- bytes from an offset on are records and a rest that ends them so

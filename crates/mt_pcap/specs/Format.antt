@@ -1,8 +1,7 @@
 -- The libpcap file format, version 2.4, as a writer of it sees it: a header of 24 bytes, and then
 -- records, each a head of 16 bytes with its data behind it. The magic number at the front tells the
 -- order of the bytes in each number, and what the fraction of a second in a head counts.
-use Rattle.std.specs.Prelude.{◌≡◌, ◌≢◌, ◌<◌, ◌≤◌, ◌⊎◌, ℕ, ◌+◌, ◌-◌, ◌*◌, ◌%◌, ◌^◌, List, [], ◌++◌, length, map, Option, Some, None}
-use Rattle.std.specs.List.{flat_map, AllByRecursion}
+use Rattle.std.specs.Prelude.{◌≡◌, ◌<◌, ◌≤◌, ◌⊎◌, ℕ, ◌+◌, ◌*◌, ◌%◌, ◌^◌, List, [], ◌++◌, length, Option, Some, None}
 use Rattle.byteorder.specs.Endian.{big_number, little_number, big_bytes, little_bytes}
 use Rattle.mt_pcap.specs.declared.form.Order.{Order}
 use Rattle.mt_pcap.specs.declared.form.Order.TheVariants.{Big, Little}
@@ -10,7 +9,7 @@ use Rattle.mt_pcap.specs.declared.form.Resolution.{Resolution}
 use Rattle.mt_pcap.specs.declared.form.Resolution.TheVariants.{Microseconds, Nanoseconds}
 use Rattle.mt_pcap.specs.declared.form.Form.{Form}
 use Rattle.mt_pcap.specs.declared.fault.PcapFault.{PcapFault}
-use Rattle.mt_pcap.specs.declared.fault.PcapFault.TheVariants.{Torn, BadRecord, NotPcap, WrongLink}
+use Rattle.mt_pcap.specs.declared.fault.PcapFault.TheVariants.{Torn, BadRecord}
 
 -- the number in the first four bytes
 unfoldable pub number : Order → List ℕ → ℕ

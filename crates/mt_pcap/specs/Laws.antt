@@ -1,12 +1,12 @@
 -- What a capture stands for, in the words of the format and not of the reader, and the laws of
 -- `capture_of`.
-use Rattle.std.specs.Prelude.{◌≡◌, ◌≢◌, ◌<◌, ◌≤◌, ◌⊎◌, ℕ, ◌-◌, ◌/◌, ◌^◌, List, [], ◌++◌, length, map, Option, Some, None, All}
+use Rattle.std.specs.Prelude.{◌≡◌, ◌≢◌, ◌<◌, ◌≤◌, ◌⊎◌, ℕ, ◌-◌, ◌*◌, ◌/◌, ◌^◌, List, [], ◌++◌, length, map, Some, None, All}
 use Rattle.std.specs.List.{flat_map, AllByRecursion}
-use Rattle.mt_pcap.specs.declared.fault.PcapFault.{PcapFault}
 use Rattle.mt_pcap.specs.declared.fault.PcapFault.TheVariants.{NotPcap, WrongLink}
 use Rattle.mt_pcap.specs.Format.{Header, header_bytes, link_type, Record, record_bytes, IsRecord, told, EndsAs, second, longest}
 use Rattle.mt_pcap.specs.Capture.{Capture, capture_of}
 use Rattle.mt_pcap.specs.Text.{capture_text}
+use Rattle.mt_pcap.specs.Facts.{IsOfBytes}
 
 -- the bytes are an Ethernet header, the records that the capture has, and a rest that ends it so
 pub record IsOfRecords (bytes : List ℕ) (capture : Capture) : Type 0 where
@@ -57,3 +57,11 @@ abbrev pub CaptureReadsBack : Type 0
 CaptureReadsBack =
     (records : List (ℕ × List ℕ)) → All IsWritable records
     → capture_of (capture_text records) ≡ record { records = records; end = None }
+
+-- what is read can be written, each record takes 16 bytes or more, and no end is one of reading
+abbrev pub CaptureIsSound : Type 0
+CaptureIsSound =
+    (bytes : List ℕ) → All (λ b. b < 256) bytes
+    → All IsWritable (capture_of bytes).records
+    × (16 * length (capture_of bytes).records ≤ length bytes)
+    × IsOfBytes (capture_of bytes).end

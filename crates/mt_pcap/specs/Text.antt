@@ -26,5 +26,5 @@ record_head_text stamp len = head_bytes Little (own_head stamp len)
 abbrev pub record_text : ℕ × List ℕ → List ℕ
 record_text r = record_head_text r.0 (length r.1) ++ r.1
 
-unfoldable pub capture_text : List (ℕ × List ℕ) → List ℕ
+abbrev pub capture_text : List (ℕ × List ℕ) → List ℕ
 capture_text records = header_text ++ flat_map record_text records

@@ -1,5 +1,5 @@
 //! The laws of the words that the contracts use.
-ghost use Rattle.mt_pcap.specs.Laws.{CaptureStands, CaptureStandsAlone, CaptureReadsBack};
+ghost use Rattle.mt_pcap.specs.Laws.{CaptureStands, CaptureStandsAlone, CaptureReadsBack, CaptureIsSound};
 
 /// All bytes stand, in the words of the file format, for the capture that is read of them.
 pub fn capture_stands()
@@ -14,4 +14,10 @@ pub fn capture_stands_alone()
 /// Records that are written are read back as they were.
 pub fn capture_reads_back()
     ensures { CaptureReadsBack }
+{}
+
+/// What is read can be written again, has 16 bytes or more for each record, and ends with no fault
+/// of reading the file or of memory.
+pub fn capture_is_sound()
+    ensures { CaptureIsSound }
 {}

@@ -8,7 +8,7 @@ mod reading;
 mod writing;
 
 pub use fault::PcapFault;
-pub use laws::{capture_reads_back, capture_stands, capture_stands_alone};
+pub use laws::{capture_is_sound, capture_reads_back, capture_stands, capture_stands_alone};
 pub use reading::{WholeCapture, whole};
 pub use writing::{header, record_head};
 

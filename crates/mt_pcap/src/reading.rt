@@ -1,5 +1,6 @@
 //! Reading a capture.
-ghost use Rattle.std.specs.Prelude.{◌≡◌, ℕ, ◌<◌, ◌≤◌, ◌/◌, ◌*◌, ◌+◌, ◌^◌, length, All, IfOk, MatchResult, Ok, Err, drop};
+ghost use Rattle.std.specs.Prelude.{◌≡◌, ℕ, ◌<◌, ◌≤◌, ◌/◌, ◌*◌, ◌+◌, ◌^◌, length, All, IfOk, MatchResult, Ok, Err, drop, nat_le, nat_lt, ◌||◌};
+ghost use Rattle.mt_pcap.specs.Format.{number, nanoseconds_in, second, longest};
 ghost use Rattle.mt_pcap.specs.Capture.{capture_of, header_of, record_at, all_records};
 ghost use Rattle.mt_pcap.specs.Facts.{IsOfBytes};
 
@@ -48,6 +49,41 @@ fn header_of(bytes: &[u8]) -> Result<Form, PcapFault>
     }
 }
 
+/// What the head of a record tells: the seconds, the fraction of a second in nanoseconds, and how
+/// many bytes of the frame follow.
+#[derive(Clone, Copy)]
+struct RecordHead {
+    seconds: u32,
+    fraction: u64,
+    captured: u32,
+}
+
+impl RecordHead {
+    /// Whether the fraction is a second or more, or the frame is too long.
+    fn is_improper(&self) -> bool
+        ensures { result ≡ (nat_le second self.now.fraction || nat_lt longest self.now.captured) }
+    {
+        self.fraction >= SECOND || self.captured > LONGEST
+    }
+}
+
+/// The head at the front of the bytes. How long the frame was on the wire, its last number, is not
+/// looked at.
+fn head_of(form: Form, bytes: &[u8]) -> RecordHead
+    requires { HEAD_LENGTH ≤ length bytes.now }
+    ensures seconds { result.seconds ≡ number form.order bytes.now }
+    ensures fraction { result.fraction
+        ≡ number form.order (drop 4 bytes.now) * nanoseconds_in form.resolution }
+    ensures captured { result.captured ≡ number form.order (drop 8 bytes.now) }
+{
+    let fraction = u64::from(form.order.number(&bytes[4..])) * form.resolution.nanoseconds();
+    RecordHead {
+        seconds: form.order.number(bytes),
+        fraction,
+        captured: form.order.number(&bytes[8..]),
+    }
+}
+
 /// The record at the front of the bytes, which begin at an offset in the file: its time in
 /// nanoseconds, the bytes of its frame, and the bytes behind it.
 #[tactic(auto, unfolding(crate::specs::Capture::record_at))]
@@ -59,19 +95,18 @@ fn record_at(form: Form, offset: u64, bytes: &[u8]) -> Result<(u64, &[u8], &[u8]
     if bytes.len() < HEAD_LENGTH {
         return Err(PcapFault::Torn(offset));
     }
-    let seconds = u64::from(form.order.number(bytes));
-    let fraction = u64::from(form.order.number(&bytes[4..])) * form.resolution.nanoseconds();
-    let captured = form.order.number(&bytes[8..]);
-    if fraction >= SECOND || captured > LONGEST {
+    let head = head_of(form, bytes);
+    if head.is_improper() {
         return Err(PcapFault::BadRecord(offset));
     }
     let behind = &bytes[HEAD_LENGTH..];
-    let captured = captured as usize;
+    let captured = head.captured as usize;
     if behind.len() < captured {
         return Err(PcapFault::Torn(offset));
     }
     let (data, rest) = behind.split_at(captured);
-    Ok((seconds * SECOND + fraction, data, rest))
+    let stamp = u64::from(head.seconds) * SECOND + head.fraction;
+    Ok((stamp, data, rest))
 }
 
 /// The records behind the header.
