@@ -1,8 +1,9 @@
 -- The header checksum is right after a write.
-use Rattle.std.proofs.Common.{◌≡◌, ◌≢◌, ◌∙◌, sym, ap, refl, ℕ, ◌+◌, ◌-◌, ◌*◌, ◌/◌, ◌%◌, ◌<◌, ◌≤◌, List, [], ◌∷◌, length, get_or, set, take, min, sum, zero-add, fold, arith}
+use Rattle.std.proofs.Common.{◌≡◌, ◌≢◌, ◌∙◌, sym, ap, refl, ℕ, ◌+◌, ◌-◌, ◌*◌, ◌/◌, ◌%◌, ◌<◌, ◌≤◌, List, [], ◌∷◌, length, get_or, set, take, min, sum, arith}
 use Rattle.std.proofs.Math.Seq.{take-set-lt}
 use Rattle.std.proofs.lemmas.Bool.Decides.{nat_tests}
 use Rattle.std.proofs.lemmas.List.{get_or-set_other, get_or-take, length-set, length-take, take-set-le}
+use Rattle.mt_packet.proofs.Sums.{sum-cons}
 use Rattle.mt_packet.proofs.Shape.{SameShape, SameShape-put_two, same-header_length}
 use Rattle.mt_packet.specs.Checksum.{words_of, ones_complement, negative_of}
 use Rattle.mt_packet.specs.Field.{two_bytes_at}
@@ -12,18 +13,6 @@ use Rattle.mt_packet.specs.Write.{put_two, with_header_checksum, header_checksum
 -- the sum of the words of a datagram's header
 abbrev pub header_sum : List ℕ → ℕ
 header_sum datagram = sum (words_of (take (header_length datagram) datagram))
-
--- a sum from some number on
-sum-from : (n : ℕ) (xs : List ℕ) → fold ◌+◌ n xs ≡ n + fold ◌+◌ 0 xs
-sum-from n [] = omega arith
-sum-from n (x ∷ xs) =
-    let here : fold ◌+◌ (n + x) xs ≡ n + x + fold ◌+◌ 0 xs = sum-from (n + x) xs in
-    let from_0 : fold ◌+◌ (0 + x) xs ≡ 0 + x + fold ◌+◌ 0 xs = sum-from (0 + x) xs in
-    here ∙ omega (arith, from_0)
-
--- a sum begins with its first number
-sum-cons : (x : ℕ) (xs : List ℕ) → sum (x ∷ xs) ≡ x + sum xs
-sum-cons x xs = sum-from (0 + x) xs ∙ ap (λ n. n + sum xs) (zero-add x)
 
 -- the sum of twelve bytes and the words behind them
 sum-twelve : (a b c d e f g h i j k l : ℕ) (rest : List ℕ)
@@ -47,9 +36,9 @@ sum-put (a ∷ b ∷ c ∷ d ∷ e ∷ f ∷ g ∷ h ∷ i ∷ j ∷ []) v long 
 sum-put (a ∷ b ∷ c ∷ d ∷ e ∷ f ∷ g ∷ h ∷ i ∷ j ∷ k ∷ []) v long small = absurd (omega arith)
 sum-put (a ∷ b ∷ c ∷ d ∷ e ∷ f ∷ g ∷ h ∷ i ∷ j ∷ k ∷ l ∷ rest) v long small =
     let with_v : sum (words_of (put_two (a ∷ b ∷ c ∷ d ∷ e ∷ f ∷ g ∷ h ∷ i ∷ j ∷ k ∷ l ∷ rest) 10 v)) ≡ (a * 256 + b) + ((c * 256 + d) + ((e * 256 + f) + ((g * 256 + h) + ((i * 256 + j) + (((v / 256 % 256) * 256 + (v % 256)) + sum (words_of rest))))))
-        = sum-twelve a b c d e f g h i j (v / 256 % 256) (v % 256) rest in
+    = sum-twelve a b c d e f g h i j (v / 256 % 256) (v % 256) rest in
     let with_0 : sum (words_of (put_two (a ∷ b ∷ c ∷ d ∷ e ∷ f ∷ g ∷ h ∷ i ∷ j ∷ k ∷ l ∷ rest) 10 0)) ≡ (a * 256 + b) + ((c * 256 + d) + ((e * 256 + f) + ((g * 256 + h) + ((i * 256 + j) + ((0 * 256 + 0) + sum (words_of rest))))))
-        = sum-twelve a b c d e f g h i j 0 0 rest in
+    = sum-twelve a b c d e f g h i j 0 0 rest in
     omega arith
 
 sum-held : (bytes : List ℕ) → 12 ≤ length bytes
@@ -69,7 +58,7 @@ sum-held (a ∷ b ∷ c ∷ d ∷ e ∷ f ∷ g ∷ h ∷ i ∷ j ∷ k ∷ []) 
 sum-held (a ∷ b ∷ c ∷ d ∷ e ∷ f ∷ g ∷ h ∷ i ∷ j ∷ k ∷ l ∷ rest) long =
     let held : sum (words_of (a ∷ b ∷ c ∷ d ∷ e ∷ f ∷ g ∷ h ∷ i ∷ j ∷ k ∷ l ∷ rest)) ≡ (a * 256 + b) + ((c * 256 + d) + ((e * 256 + f) + ((g * 256 + h) + ((i * 256 + j) + ((k * 256 + l) + sum (words_of rest)))))) = sum-twelve a b c d e f g h i j k l rest in
     let with_0 : sum (words_of (put_two (a ∷ b ∷ c ∷ d ∷ e ∷ f ∷ g ∷ h ∷ i ∷ j ∷ k ∷ l ∷ rest) 10 0)) ≡ (a * 256 + b) + ((c * 256 + d) + ((e * 256 + f) + ((g * 256 + h) + ((i * 256 + j) + ((0 * 256 + 0) + sum (words_of rest))))))
-        = sum-twelve a b c d e f g h i j 0 0 rest in
+    = sum-twelve a b c d e f g h i j 0 0 rest in
     let at : two_bytes_at (a ∷ b ∷ c ∷ d ∷ e ∷ f ∷ g ∷ h ∷ i ∷ j ∷ k ∷ l ∷ rest) 10 ≡ k * 256 + l = refl in
     omega arith
 
@@ -116,7 +105,7 @@ take-put_two-beyond n bytes p v far =
 pub header_sum-put : (datagram : List ℕ) (v : ℕ) → 20 ≤ header_length datagram → header_length datagram ≤ length datagram
     → v ≤ 65535
     → header_sum (put_two datagram 10 v)
-      ≡ sum (words_of (take (header_length datagram) (put_two datagram 10 0))) + v
+    ≡ sum (words_of (take (header_length datagram) (put_two datagram 10 0))) + v
 header_sum-put datagram v least within small =
     let n = header_length datagram in
     let long : 12 ≤ length (take n datagram) = omega (arith, length-take n datagram) in
@@ -130,7 +119,7 @@ header_sum-put datagram v least within small =
 -- the sum of a header by the checksum that it has
 pub header_sum-held : (datagram : List ℕ) → 20 ≤ header_length datagram → header_length datagram ≤ length datagram
     → header_sum datagram
-      ≡ sum (words_of (take (header_length datagram) (put_two datagram 10 0))) + two_bytes_at datagram 10
+    ≡ sum (words_of (take (header_length datagram) (put_two datagram 10 0))) + two_bytes_at datagram 10
 header_sum-held datagram least within =
     let n = header_length datagram in
     let long : 12 ≤ length (take n datagram) = omega (arith, length-take n datagram) in
@@ -139,7 +128,7 @@ header_sum-held datagram least within =
     sum-held (take n datagram) long
     ∙ ap (λ b. sum (words_of b) + two_bytes_at (take n datagram) 10) (sym (take-put_two n datagram 10 0 inside))
     ∙ ap (λ t. sum (words_of (take n (put_two datagram 10 0))) + t)
-        (let x = get_or-take n datagram 10 0 ten in let y = get_or-take n datagram 11 0 inside in cc)
+    (let x = get_or-take n datagram 10 0 ten in let y = get_or-take n datagram 11 0 inside in cc)
 
 -- a header that begins with some version has a sum
 pub header_sum-some : (datagram : List ℕ) → 20 ≤ header_length datagram → header_length datagram ≤ length datagram
@@ -147,7 +136,7 @@ pub header_sum-some : (datagram : List ℕ) → 20 ≤ header_length datagram �
 header_sum-some datagram least within some =
     let n = header_length datagram in
     let long : 12 ≤ length (take n (put_two datagram 10 0))
-        = omega (arith, length-take n (put_two datagram 10 0), (SameShape-put_two datagram 10 0 (omega arith)).same_length) in
+    = omega (arith, length-take n (put_two datagram 10 0), (SameShape-put_two datagram 10 0 (omega arith)).same_length) in
     let first = sum-first (take n (put_two datagram 10 0)) long in
     let zero_in : 0 < n = omega arith in
     let at = get_or-take n (put_two datagram 10 0) 0 0 zero_in in

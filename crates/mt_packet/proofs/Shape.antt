@@ -31,7 +31,7 @@ SameShape-trans a b c p q =
       byte_3 = q.byte_3 ∙ p.byte_3;
       byte_6 = q.byte_6 ∙ p.byte_6;
       byte_7 = q.byte_7 ∙ p.byte_7;
-      byte_9 = q.byte_9 ∙ p.byte_9
+      byte_9 = q.byte_9 ∙ p.byte_9;
     }
 
 -- a write at another byte keeps the shape
@@ -44,7 +44,7 @@ SameShape-set d i v n0 n2 n3 n6 n7 n9 =
       byte_3 = get_or-set_other d i 3 v 0 n3;
       byte_6 = get_or-set_other d i 6 v 0 n6;
       byte_7 = get_or-set_other d i 7 v 0 n7;
-      byte_9 = get_or-set_other d i 9 v 0 n9
+      byte_9 = get_or-set_other d i 9 v 0 n9;
     }
 
 SameShape-beyond : (d : List ℕ) (i v : ℕ) → 10 ≤ i → SameShape d (set d i v)
@@ -54,12 +54,12 @@ SameShape-beyond d i v far =
 pub SameShape-put_two : (d : List ℕ) (p v : ℕ) → 10 ≤ p → SameShape d (put_two d p v)
 SameShape-put_two d p v far =
     SameShape-trans d _ _ (SameShape-beyond d p (v / 256 % 256) far)
-        (SameShape-beyond (set d p (v / 256 % 256)) (p + 1) (v % 256) (omega arith))
+    (SameShape-beyond (set d p (v / 256 % 256)) (p + 1) (v % 256) (omega arith))
 
 pub SameShape-put_four : (d : List ℕ) (p v : ℕ) → 10 ≤ p → SameShape d (put_four d p v)
 SameShape-put_four d p v far =
     SameShape-trans d _ _ (SameShape-put_two d p (v / 65536) far)
-        (SameShape-put_two (put_two d p (v / 65536)) (p + 2) v (omega arith))
+    (SameShape-put_two (put_two d p (v / 65536)) (p + 2) v (omega arith))
 
 pub SameShape-header_checksum : (d : List ℕ) → SameShape d (with_header_checksum d)
 unfolding with_header_checksum

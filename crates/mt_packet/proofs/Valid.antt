@@ -31,7 +31,7 @@ valid-along d e v s right =
       header_is_long_enough = let a = v.header_is_long_enough in rw h a;
       header_is_within = let a = v.header_is_within in rw (h, t) a;
       packet_is_within = let a = v.packet_is_within in rw (t, n) a;
-      sum_is_right = right
+      sum_is_right = right;
     }
 
 -- a checksum that is written into a datagram of a valid shape makes it valid
@@ -47,7 +47,7 @@ valid-mended d e v s =
     let within : header_length e ≤ length e = rw (h, n) inner in
     let some : 0 < get_or e 0 0 = omega arith in
     valid-along d (with_header_checksum e) v (SameShape-trans d e _ s (SameShape-header_checksum e))
-        (mended-right e least within some)
+    (mended-right e least within some)
 
 -- a write behind the header leaves its sum
 header_sum-beyond : (d : List ℕ) (p v : ℕ) → header_length d ≤ p → 10 ≤ p → header_sum (put_two d p v) ≡ header_sum d
@@ -60,7 +60,7 @@ valid-beyond d p v far w =
     let least = w.header_is_long_enough in
     let ten : 10 ≤ p = omega arith in
     valid-along d _ w (SameShape-put_two d p v ten)
-        (ap ones_complement (header_sum-beyond d p v far ten) ∙ w.sum_is_right)
+    (ap ones_complement (header_sum-beyond d p v far ten) ∙ w.sum_is_right)
 
 -- the transport checksum stands behind the header
 place-far : (d : List ℕ) → header_length d ≤ checksum_place d
@@ -142,9 +142,9 @@ valid-cut d v =
       header_is_within = rw (h, t) inside;
       packet_is_within = omega arith;
       sum_is_right =
-        ap (λ k. ones_complement (sum (words_of (take k (take (total_length d) d))))) h
-        ∙ ap (λ b. ones_complement (sum (words_of b))) (take-take (header_length d) (total_length d) d inside)
-        ∙ v.sum_is_right
+          ap (λ k. ones_complement (sum (words_of (take k (take (total_length d) d))))) h
+          ∙ ap (λ b. ones_complement (sum (words_of b))) (take-take (header_length d) (total_length d) d inside)
+          ∙ v.sum_is_right;
     }
 
 -- a checksum of 65535 is the same number as 0

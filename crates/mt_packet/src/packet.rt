@@ -3,7 +3,7 @@ ghost use Rattle.std.specs.Prelude.{◌≡◌, ◌+◌, ◌^◌, ◌<◌, ◌≤
 ghost use Rattle.mt_packet.specs.Flow.{packet_flow};
 ghost use Rattle.mt_packet.specs.Header.{field_of};
 ghost use Rattle.mt_packet.specs.Ipv4.{IsValidIpv4, header_length, has_ports};
-ghost use Rattle.mt_packet.specs.Packet.{PacketState, has_ethernet, frame_of, datagram_of, packet_header, arrived, stripped, encapsulated, ethernet_header, checked, checked_datagram, layer_checked, with_field, CanWrite, IsChecked};
+ghost use Rattle.mt_packet.specs.Packet.{PacketState, has_ethernet, frame_of, datagram_of, packet_header, arrived, stripped, encapsulated, ethernet_header, checked, checked_datagram, layer_checked, with_field, CanWrite, IsChecked, HasEthernet};
 ghost use Rattle.std.specs.Bool.{OnTrue};
 ghost use Rattle.mt_packet.specs.Write.{HasHeader, with_address, with_dscp, with_ttl, with_port, with_header_zero, with_tcp_zero};
 
@@ -75,6 +75,24 @@ impl Packet {
         self.layer
     }
 
+    /// Whether a whole Ethernet header stands in front.
+    pub fn has_ethernet(&self) -> bool
+        ensures { IsTrue result ↔ HasEthernet self.now }
+    {
+        match self.layer {
+            Layer::Frame | Layer::Framed => self.bytes.len() >= ethernet::HEADER,
+            Layer::Bare | Layer::Ip => false,
+        }
+    }
+
+    /// Whether the ports are visible: no later fragment, and a TCP header of 20 bytes or a UDP header of
+    /// 8 bytes within the total length.
+    pub fn has_ports(&self) -> bool
+        ensures { result ≡ has_ports (datagram_of self.now) }
+    {
+        Datagram::new(ethernet::behind_header(&self.bytes)).has_ports()
+    }
+
     /// A field, read at the present bytes. Where the Ethernet header was taken away, the fields of
     /// Ethernet and ARP are absent, and those of IPv4 are read from the first byte on.
     pub fn field(&self, field: Field) -> u64
@@ -117,9 +135,7 @@ impl Packet {
         requires room { writes.old < 2 ^ 63 }
         ensures written { self.new ≡ with_field self.old field value }
         ensures still_checked { IsChecked self.old → IsChecked self.new }
-        ensures same_ports {
-            has_ports (datagram_of self.new) ≡ has_ports (datagram_of self.old)
-        }
+        ensures same_ports { has_ports (datagram_of self.new) ≡ has_ports (datagram_of self.old) }
         ensures counted { writes.new ≡ writes.old + 1 }
     {
         writes.add();
@@ -133,9 +149,7 @@ impl Packet {
         ensures valid { IsTrue result ↔ IsValidIpv4 (datagram_of self.old) }
         ensures after { self.new ≡ (if result then checked self.old else self.old) }
         ensures checked { OnTrue result (IsChecked self.new) }
-        ensures same_ports {
-            has_ports (datagram_of self.new) ≡ has_ports (datagram_of self.old)
-        }
+        ensures same_ports { has_ports (datagram_of self.new) ≡ has_ports (datagram_of self.old) }
     {
         self.check()
     }
