@@ -4,3 +4,7 @@ pub mod Ranges
 pub mod Puts
 pub mod Frames
 pub mod Views
+pub mod Shape
+pub mod Right
+pub mod Valid
+pub mod Kept

@@ -1,8 +1,9 @@
 -- Sums of words, and their ones' complement numbers.
-use Rattle.std.proofs.Common.{◌≡◌, ◌∙◌, sym, ap, refl, ℕ, ◌+◌, ◌-◌, ◌*◌, ◌%◌, ◌<◌, ◌≤◌, List, [], length, drop, sum, arith}
+use Rattle.std.proofs.Common.{◌≡◌, ◌∙◌, sym, ap, refl, ℕ, ◌+◌, ◌-◌, ◌*◌, ◌%◌, ◌<◌, ◌≤◌, List, [], ◌∷◌, ◌++◌, length, drop, sum, fold, zero-add, arith}
 use Rattle.std.proofs.lemmas.Bool.Decides.{nat_tests}
 use Rattle.std.proofs.lemmas.List.{drop_all}
-use Rattle.mt_packet.specs.Checksum.{words_of, ones_complement, negative_of}
+use Rattle.std.proofs.lemmas.List.Sums.{fold-append}
+use Rattle.mt_packet.specs.Checksum.{words_of, ones_complement, negative_of, checksum_after_write, udp_after_write, transport_after_write}
 
 -- a number of 16 bits is its own ones' complement number
 pub ones_complement-small : (n : ℕ) → n ≤ 65535 → ones_complement n ≡ n
@@ -15,3 +16,39 @@ ones_complement-done total bytes place all small done whole =
     let e : ones_complement (total + 0) ≡ all = rw (drop_all place bytes done) at whole in
     let same : total + 0 ≡ total = omega arith in
     sym (ones_complement-small total small) ∙ ap ones_complement (sym same) ∙ e
+
+-- a sum from some number on
+pub sum-from : (n : ℕ) (xs : List ℕ) → fold ◌+◌ n xs ≡ n + fold ◌+◌ 0 xs
+sum-from n [] = omega arith
+sum-from n (x ∷ xs) =
+    let here : fold ◌+◌ (n + x) xs ≡ n + x + fold ◌+◌ 0 xs = sum-from (n + x) xs in
+    let from_0 : fold ◌+◌ (0 + x) xs ≡ 0 + x + fold ◌+◌ 0 xs = sum-from (0 + x) xs in
+    here ∙ omega (arith, from_0)
+
+-- a sum begins with its first number
+pub sum-cons : (x : ℕ) (xs : List ℕ) → sum (x ∷ xs) ≡ x + sum xs
+sum-cons x xs = sum-from (0 + x) xs ∙ ap (λ n. n + sum xs) (zero-add x)
+
+-- the sum of two lists joined
+pub sum-append : (xs ys : List ℕ) → sum (xs ++ ys) ≡ sum xs + sum ys
+sum-append xs ys = fold-append ◌+◌ 0 xs ys ∙ sum-from (sum xs) ys
+
+-- two writes equal one of both, for plain differences
+twice : (c o1 n1 o2 n2 : ℕ)
+    → ((c + o1 + negative_of n1) % 65535 + o2 + negative_of n2) % 65535 ≡ (c + (o1 + o2) + negative_of (n1 + n2)) % 65535
+twice c o1 n1 o2 n2 = omega arith
+
+-- and where the first result of 0 was written 65535
+twice-full : (c o1 n1 o2 n2 : ℕ) → (c + o1 + negative_of n1) % 65535 ≡ 0
+    → (65535 + o2 + negative_of n2) % 65535 ≡ (c + (o1 + o2) + negative_of (n1 + n2)) % 65535
+twice-full c o1 n1 o2 n2 h = omega arith
+
+pub written-twice : (protocol c : ℕ) (o1 n1 o2 n2 : List ℕ)
+    → transport_after_write protocol (transport_after_write protocol c o1 n1) o2 n2
+    ≡ transport_after_write protocol c (o1 ++ o2) (n1 ++ n2)
+written-twice protocol c o1 n1 o2 n2 =
+    let o = sum-append o1 o2 in
+    let n = sum-append n1 n2 in
+    let plain = twice c (sum o1) (sum n1) (sum o2) (sum n2) in
+    let full = twice-full c (sum o1) (sum n1) (sum o2) (sum n2) in
+    grind (arith, nat_tests)

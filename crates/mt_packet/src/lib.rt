@@ -12,9 +12,12 @@ mod field;
 mod flow;
 mod frame;
 mod header;
+pub mod laws;
 mod layer;
 mod packet;
 mod span;
+#[cfg(test)]
+mod tests;
 mod visible;
 mod writes;
 

@@ -3,7 +3,8 @@ ghost use Rattle.std.specs.Prelude.{◌≡◌, ◌+◌, ◌^◌, ◌<◌, ◌≤
 ghost use Rattle.mt_packet.specs.Flow.{packet_flow};
 ghost use Rattle.mt_packet.specs.Header.{field_of};
 ghost use Rattle.mt_packet.specs.Ipv4.{IsValidIpv4, header_length, has_ports};
-ghost use Rattle.mt_packet.specs.Packet.{PacketState, has_ethernet, frame_of, datagram_of, packet_header, arrived, stripped, encapsulated, ethernet_header, checked, checked_datagram, layer_checked, with_field, CanWrite};
+ghost use Rattle.mt_packet.specs.Packet.{PacketState, has_ethernet, frame_of, datagram_of, packet_header, arrived, stripped, encapsulated, ethernet_header, checked, checked_datagram, layer_checked, with_field, CanWrite, IsChecked, HasEthernet};
+ghost use Rattle.std.specs.Bool.{OnTrue};
 ghost use Rattle.mt_packet.specs.Write.{HasHeader, with_address, with_dscp, with_ttl, with_port, with_header_zero, with_tcp_zero};
 
 mod write;
@@ -74,6 +75,24 @@ impl Packet {
         self.layer
     }
 
+    /// Whether a whole Ethernet header stands in front.
+    pub fn has_ethernet(&self) -> bool
+        ensures { IsTrue result ↔ HasEthernet self.now }
+    {
+        match self.layer {
+            Layer::Frame | Layer::Framed => self.bytes.len() >= ethernet::HEADER,
+            Layer::Bare | Layer::Ip => false,
+        }
+    }
+
+    /// Whether the ports are visible: no later fragment, and a TCP header of 20 bytes or a UDP header of
+    /// 8 bytes within the total length.
+    pub fn has_ports(&self) -> bool
+        ensures { result ≡ has_ports (datagram_of self.now) }
+    {
+        Datagram::new(ethernet::behind_header(&self.bytes)).has_ports()
+    }
+
     /// A field, read at the present bytes. Where the Ethernet header was taken away, the fields of
     /// Ethernet and ARP are absent, and those of IPv4 are read from the first byte on.
     pub fn field(&self, field: Field) -> u64
@@ -115,23 +134,12 @@ impl Packet {
         requires allowed { CanWrite self.old field value }
         requires room { writes.old < 2 ^ 63 }
         ensures written { self.new ≡ with_field self.old field value }
+        ensures still_checked { IsChecked self.old → IsChecked self.new }
+        ensures same_ports { has_ports (datagram_of self.new) ≡ has_ports (datagram_of self.old) }
         ensures counted { writes.new ≡ writes.old + 1 }
     {
         writes.add();
-        match field {
-            Field::EthType => write_two(&mut self.bytes, 12, value as u16),
-            Field::EthDst => write_six(&mut self.bytes, 0, value),
-            Field::EthSrc => write_six(&mut self.bytes, 6, value),
-            Field::Paint => self.paint = value as u8,
-            Field::Annotation => self.annotation = value as u32,
-            Field::Src => write_address(&mut self.bytes, 12, value as u32),
-            Field::Dst => write_address(&mut self.bytes, 16, value as u32),
-            Field::Dscp => write_code_point(&mut self.bytes, value as u8),
-            Field::Ttl => write_time_to_live(&mut self.bytes, value as u8),
-            Field::Sport => write_port(&mut self.bytes, 0, value as u16),
-            Field::Dport => write_port(&mut self.bytes, 2, value as u16),
-            _ => {}
-        }
+        self.set(field, value);
     }
 
     /// Whether the data are valid IPv4 (RFC 791). If so, what follows the total length is cut off, a
@@ -140,15 +148,10 @@ impl Packet {
     pub fn check_ip(&mut self) -> bool
         ensures valid { IsTrue result ↔ IsValidIpv4 (datagram_of self.old) }
         ensures after { self.new ≡ (if result then checked self.old else self.old) }
+        ensures checked { OnTrue result (IsChecked self.new) }
+        ensures same_ports { has_ports (datagram_of self.new) ≡ has_ports (datagram_of self.old) }
     {
-        let datagram = ethernet::behind_header(&self.bytes);
-        if !valid(datagram) {
-            return false;
-        }
-        self.annotation = Datagram::new(datagram).destination();
-        trim(&mut self.bytes);
-        self.layer = checked_layer(self.layer);
-        true
+        self.check()
     }
 
     /// Takes the Ethernet header away: `Frame` becomes `Bare`, `Framed` becomes `Ip`. False where the
@@ -157,6 +160,7 @@ impl Packet {
         requires { IsTrue (has_ethernet self.old.layer) }
         ensures long_enough { IsTrue result ↔ (14 ≤ length self.old.bytes) }
         ensures after { self.new ≡ (if result then stripped self.old else self.old) }
+        ensures same_datagram { datagram_of self.new ≡ datagram_of self.old }
     {
         if self.bytes.len() < ethernet::HEADER {
             return false;
@@ -172,7 +176,8 @@ impl Packet {
     /// of the source and the destination address.
     pub fn encap(&mut self, kind: u16, src: u64, dst: u64)
         requires { self.old.layer ≡ Layer.Ip }
-        ensures { self.new ≡ encapsulated self.old kind src dst }
+        ensures after { self.new ≡ encapsulated self.old kind src dst }
+        ensures same_datagram { datagram_of self.new ≡ datagram_of self.old }
     {
         write_ethernet(&mut self.bytes, kind, src, dst);
         self.layer = Layer::Framed;
@@ -204,6 +209,42 @@ impl Packet {
             number: self.number,
             frame,
         }
+    }
+
+    /// Sets a field and mends the checksums.
+    fn set(&mut self, field: Field, value: u64)
+        requires { CanWrite self.old field value }
+        ensures { self.new ≡ with_field self.old field value }
+    {
+        match field {
+            Field::EthType => write_two(&mut self.bytes, 12, value as u16),
+            Field::EthDst => write_six(&mut self.bytes, 0, value),
+            Field::EthSrc => write_six(&mut self.bytes, 6, value),
+            Field::Paint => self.paint = value as u8,
+            Field::Annotation => self.annotation = value as u32,
+            Field::Src => write_address(&mut self.bytes, 12, value as u32),
+            Field::Dst => write_address(&mut self.bytes, 16, value as u32),
+            Field::Dscp => write_code_point(&mut self.bytes, value as u8),
+            Field::Ttl => write_time_to_live(&mut self.bytes, value as u8),
+            Field::Sport => write_port(&mut self.bytes, 0, value as u16),
+            Field::Dport => write_port(&mut self.bytes, 2, value as u16),
+            _ => {}
+        }
+    }
+
+    /// Trims a valid packet and sets its annotation and its layer.
+    fn check(&mut self) -> bool
+        ensures valid { IsTrue result ↔ IsValidIpv4 (datagram_of self.old) }
+        ensures after { self.new ≡ (if result then checked self.old else self.old) }
+    {
+        let datagram = ethernet::behind_header(&self.bytes);
+        if !valid(datagram) {
+            return false;
+        }
+        self.annotation = Datagram::new(datagram).destination();
+        trim(&mut self.bytes);
+        self.layer = checked_layer(self.layer);
+        true
     }
 
     /// The bytes in which the Ethernet header stands; none where it was taken away.

@@ -1,0 +1,11 @@
+-- proofs/packet/Packet/write_field/Answers.antt
+use Rattle.mt_packet.proofs.Kept.{written-checked, written-ports}
+use Rattle.mt_packet.proofs.packet.Packet.write_field.Goals as goal
+
+pub returns-clause-still_checked : goal.returns-clause-still_checked
+returns-clause-still_checked c =
+    written-checked c.args.self.now c.set.new.self c.args.field c.args.value c.requires.allowed c.set.ensures
+
+pub returns-clause-same_ports : goal.returns-clause-same_ports
+returns-clause-same_ports c =
+    written-ports c.args.self.now c.set.new.self c.args.field c.args.value c.requires.allowed c.set.ensures
