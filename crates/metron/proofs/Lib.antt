@@ -3,3 +3,4 @@ mod Names
 mod Ways
 mod Texts
 mod Runs
+mod Exact

@@ -22,11 +22,10 @@ numbers-push n = range-push 0 n ∙ ap (λ k. range_with_len 0 n ++ k ∷ []) (o
 
 module _ (device : ℕ) (chain : Parts) where
   pub device_text-nil : device_text device chain [] ≡ header_text
-  unfolding capture_text
   device_text-nil = append-nil header_text
 
   device_text-push : (records : List (ℕ × List ℕ)) (x : ℕ × List ℕ) → device_text device chain (records ++ x ∷ []) ≡ device_text device chain records ++ text_of_one device chain x
-  unfolding capture_text text_of_one
+  unfolding text_of_one
   device_text-push records x =
       ap capture_text (filter-append (λ r. is_sent_on device (fate_of chain r.1)) records (x ∷ []))
       ∙ ap (λ l. header_text ++ l) (flat_map-append record_text (sent_on device chain records) (sent_on device chain (x ∷ [])))

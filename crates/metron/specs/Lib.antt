@@ -5,3 +5,4 @@ pub mod Fates
 pub mod Inputs
 pub mod Serving
 pub mod Causes
+pub mod Due

@@ -1,11 +1,13 @@
 //! The top call.
-ghost use Rattle.std.specs.Prelude.{◌≡◌, [], map};
+ghost use Rattle.std.specs.Prelude.{◌≡◌, ◌⊎◌, [], map, Some};
 ghost use Rattle.std.specs.String.{string_bytes};
 ghost use Rattle.mt_elements.specs.Parts.{Parts};
 ghost use Rattle.metron.specs.Outcome.{status_of};
 ghost use Rattle.metron.specs.Order.{order_of};
-ghost use Rattle.metron.specs.Command.{view};
-ghost use Rattle.metron.specs.Causes.{is_device, binds, output_device, state_of, IsRun};
+ghost use Rattle.metron.specs.Command.{view, command_of};
+ghost use Rattle.metron.specs.Causes.{is_device, binds, output_device, state_of, IsUntouched, IsRun};
+ghost use Rattle.metron.specs.Due.{due, IsExact, NoneFailed, IsFinished, IsEarly};
+ghost use Rattle.metron.specs.declared.outcome.Fault.{Fault};
 
 use crate::command::{Command, command_in};
 use crate::inputs::{read_capture, read_chain, read_script};
@@ -15,10 +17,21 @@ use mt_elements::Chain;
 use mt_io::Files;
 use std::alloc::Global;
 
-/// Runs the command that the words are, over files by name.
+/// Runs the command that the words are, over files by name:
+///
+/// ```text
+/// run CHAIN SCRIPT in:DEVICE=FILE out:DEVICE=FILE
+/// ```
+///
+/// reads the chain, the script and the capture, takes each frame of the capture through the chain, and
+/// writes a capture of those that are sent.
 pub fn metron<F: Files>(alloc: Global, words: &[String], files: &mut F) -> Outcome
     ensures status { result.status ≡ status_of result.fault }
     ensures run { IsRun (map string_bytes words.now) (state_of F.held F.written F.read_faults F.write_faults files.old) (state_of F.held F.written F.read_faults F.write_faults files.new) (order_of result) result.fault }
+    ensures done { result.fault ≡ Fault.Done → IsFinished (map string_bytes words.now) (state_of F.held F.written F.read_faults F.write_faults files.old) (state_of F.held F.written F.read_faults F.write_faults files.new) (order_of result) }
+    ensures nothing_written { IsEarly result.fault → IsUntouched (state_of F.held F.written F.read_faults F.write_faults files.old) (state_of F.held F.written F.read_faults F.write_faults files.new) (order_of result) }
+    ensures exact { IsExact (command_of (map string_bytes words.now)) (state_of F.held F.written F.read_faults F.write_faults files.old) (state_of F.held F.written F.read_faults F.write_faults files.new) result.fault }
+    ensures complete { NoneFailed (state_of F.held F.written F.read_faults F.write_faults files.old) (state_of F.held F.written F.read_faults F.write_faults files.new) → (answer : Fault) → due (map string_bytes words.now) (F.held files.old) ≡ Some answer → (result.fault ≡ answer) ⊎ (result.fault ≡ Fault.Memory) }
 {
     let mut order = Vec::new(alloc);
     let fault = run(alloc, words, files, &mut order);
