@@ -3,3 +3,4 @@ pub mod Chain
 pub mod Lexis
 pub mod Form
 pub mod Shape
+pub mod Spelling

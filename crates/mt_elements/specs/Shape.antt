@@ -84,10 +84,10 @@ straight_in text = option_and_then straight_from (pieces_of straight text)
 unfoldable pub classified_in : List ℕ → Option Parts
 classified_in text = option_and_then classified_from (pieces_of classified text)
 
+abbrev pub first_of_two : Option Parts → Option Parts → Option Parts
+first_of_two (Some chain) other = Some chain
+first_of_two None other = other
+
 -- the chain that a text stands for, where it has one of the two shapes
 unfoldable pub chain_of : List ℕ → Option Parts
-chain_of text = either_of (straight_in text) (classified_in text)
-  where
-    either_of : Option Parts → Option Parts → Option Parts
-    either_of (Some chain) other = Some chain
-    either_of None other = other
+chain_of text = first_of_two (straight_in text) (classified_in text)

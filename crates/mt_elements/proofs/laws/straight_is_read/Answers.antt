@@ -1,0 +1,5 @@
+use Rattle.mt_elements.proofs.Spelled.{straight_read}
+use Rattle.mt_elements.proofs.laws.straight_is_read.Goals as goal
+
+pub returns : goal.returns
+returns c = straight_read
