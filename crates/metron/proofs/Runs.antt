@@ -43,8 +43,7 @@ pub record HasRead (name : List ℕ) (old new : State) : Type 0 where
   pub write_faults : NeverFell old.failed_writes new.failed_writes
 
 module _ (words : List (List ℕ)) (command : Words) (chain : Parts) (s0 s1 s2 s3 s4 : State) (order : List ℕ)
-  (command_is : Some command ≡ command_of words) (distinct : AreDistinct command) where
-
+    (command_is : Some command ≡ command_of words) (distinct : AreDistinct command) where
   pub untouched_one : (name : List ℕ) → HasRead name s0 s1 → order ≡ [] → IsUntouched s0 s1 order
   untouched_one name read none = record { written = read.written; none_served = none }
 

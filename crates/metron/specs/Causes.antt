@@ -88,29 +88,29 @@ end_of (Some why) = Capture 1 why
 pub data IsRun (words : List (List ℕ)) (old new : State) (order : List ℕ) (fault : Fault) : Type 0 where
   no_command : command_of words ≡ None → fault ≡ UsageWord 0 → IsUntouched old new order → IsRun words old new order fault
   chain_refused :
-    (command : Words) → command_of words ≡ Some command
-    → ChainFault (old.held command.chain) (old.failed_reads command.chain) (new.failed_reads command.chain) fault
-    → IsUntouched old new order → IsRun words old new order fault
+      (command : Words) → command_of words ≡ Some command
+      → ChainFault (old.held command.chain) (old.failed_reads command.chain) (new.failed_reads command.chain) fault
+      → IsUntouched old new order → IsRun words old new order fault
   not_bound :
-    (command : Words) (chain : Parts) → IsAtChain words old.held command chain → binds chain command ≡ false → fault ≡ UsageWord 0
-    → IsUntouched old new order → IsRun words old new order fault
+      (command : Words) (chain : Parts) → IsAtChain words old.held command chain → binds chain command ≡ false → fault ≡ UsageWord 0
+      → IsUntouched old new order → IsRun words old new order fault
   script_refused :
-    (command : Words) (chain : Parts) → IsAtScript words old.held command chain
-    → ScriptFault (old.held command.script) (old.failed_reads command.script) (new.failed_reads command.script) fault
-    → IsUntouched old new order → IsRun words old new order fault
+      (command : Words) (chain : Parts) → IsAtScript words old.held command chain
+      → ScriptFault (old.held command.script) (old.failed_reads command.script) (new.failed_reads command.script) fault
+      → IsUntouched old new order → IsRun words old new order fault
   capture_refused :
-    (command : Words) (chain : Parts) → IsAtCapture words old.held command chain
-    → CaptureFault (old.held command.capture) (old.failed_reads command.capture) (new.failed_reads command.capture) fault
-    → IsUntouched old new order → IsRun words old new order fault
+      (command : Words) (chain : Parts) → IsAtCapture words old.held command chain
+      → CaptureFault (old.held command.capture) (old.failed_reads command.capture) (new.failed_reads command.capture) fault
+      → IsUntouched old new order → IsRun words old new order fault
   broken_off :
-    (command : Words) (chain : Parts) (capture : captures.Capture) → IsAtRun words old.held command chain capture
-    → ServeFault (output_device chain) (old.failed_writes command.output) (new.failed_writes command.output) fault
-    → IsSameBut command.output old.written new.written
-    → HasServedSome (device_text (output_device chain) chain) capture.records (old.written command.output) (new.written command.output) order
-    → IsRun words old new order fault
+      (command : Words) (chain : Parts) (capture : captures.Capture) → IsAtRun words old.held command chain capture
+      → ServeFault (output_device chain) (old.failed_writes command.output) (new.failed_writes command.output) fault
+      → IsSameBut command.output old.written new.written
+      → HasServedSome (device_text (output_device chain) chain) capture.records (old.written command.output) (new.written command.output) order
+      → IsRun words old new order fault
   ended :
-    (command : Words) (chain : Parts) (capture : captures.Capture) → IsAtRun words old.held command chain capture
-    → fault ≡ end_of capture.end
-    → IsSameBut command.output old.written new.written
-    → HasServed (device_text (output_device chain) chain) capture.records (old.written command.output) (new.written command.output) order
-    → IsRun words old new order fault
+      (command : Words) (chain : Parts) (capture : captures.Capture) → IsAtRun words old.held command chain capture
+      → fault ≡ end_of capture.end
+      → IsSameBut command.output old.written new.written
+      → HasServed (device_text (output_device chain) chain) capture.records (old.written command.output) (new.written command.output) order
+      → IsRun words old new order fault

@@ -52,6 +52,6 @@ checked w = if are_distinct w then Some w else None
 unfoldable pub command_of : List (List ℕ) → Option Words
 command_of (mode ∷ chain ∷ script ∷ input ∷ output ∷ []) =
     if bytes_eq mode (codes "run") then
-        option_and_then (λ i. option_and_then (λ o. checked (record { chain = chain; script = script; device = i.0; capture = i.1; out = o.0; output = o.1 })) (binding_of (codes "out:") output)) (binding_of (codes "in:") input)
+    option_and_then (λ i. option_and_then (λ o. checked (record { chain = chain; script = script; device = i.0; capture = i.1; out = o.0; output = o.1 })) (binding_of (codes "out:") output)) (binding_of (codes "in:") input)
     else None
 command_of words = None

@@ -17,11 +17,7 @@ const CAPTURE_LIMIT: usize = 67_108_864;
 
 /// The chain whose text a file holds.
 #[tactic(auto, unfolding(crate::specs::Inputs::chain_in))]
-pub(crate) fn read_chain<F: Files>(
-    alloc: Global,
-    files: &mut F,
-    name: &str,
-) -> Result<Chain, Fault>
+pub(crate) fn read_chain<F: Files>(alloc: Global, files: &mut F, name: &str) -> Result<Chain, Fault>
     ensures ok { IfOk result (IsChainRead (F.held files.old name.now)) }
     ensures err { IfErr result (ChainFault (F.held files.old name.now) (F.read_faults files.old name.now) (F.read_faults files.new name.now)) }
 
@@ -43,11 +39,7 @@ pub(crate) fn read_chain<F: Files>(
 }
 
 /// Reads a script, which has no byte yet.
-pub(crate) fn read_script<F: Files>(
-    alloc: Global,
-    files: &mut F,
-    name: &str,
-) -> Result<(), Fault>
+pub(crate) fn read_script<F: Files>(alloc: Global, files: &mut F, name: &str) -> Result<(), Fault>
     ensures ok { OnOk result (IsScriptRead (F.held files.old name.now)) }
     ensures err { IfErr result (ScriptFault (F.held files.old name.now) (F.read_faults files.old name.now) (F.read_faults files.new name.now)) }
 

@@ -7,17 +7,17 @@ mod inputs;
 mod outcome;
 mod run;
 mod serve;
-
-pub use outcome::{Fault, FileId, Outcome};
-pub use run::metron;
+#[cfg(test)]
+mod tests;
 
 use mt_io::RealFiles;
+pub use outcome::{Fault, FileId, Outcome};
+pub use run::metron;
 use std::alloc::Global;
-use std::env;
 use std::env::Env;
-use std::io;
 use std::io::ErrorKind;
 use std::process::ExitCode;
+use std::{env, io};
 
 /// The status of a run whose words are no command; a word that is no text is none.
 const MISUSED: u8 = 1;

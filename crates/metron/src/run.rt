@@ -61,7 +61,15 @@ fn run<F: Files>(alloc: Global, words: &[String], files: &mut F, order: &mut Vec
         Err(fault) => return fault,
     };
     let device = output_device(&chain);
-    match serve(alloc, files, command.output, device, &chain, &capture.records, order) {
+    match serve(
+        alloc,
+        files,
+        command.output,
+        device,
+        &chain,
+        &capture.records,
+        order,
+    ) {
         Ok(()) => {}
         Err(fault) => return fault,
     }
