@@ -28,7 +28,7 @@ pub struct WholeCapture {
     pub end: Option<PcapFault>,
 }
 
-/// The form that a capture's header tells.
+/// The form that a capture's header tells. The link type is the header's last number.
 #[tactic(auto, unfolding(crate::specs::Capture::header_of))]
 fn header_of(bytes: &[u8]) -> Result<Form, PcapFault>
     ensures value { result ≡ header_of bytes.now }
@@ -49,8 +49,9 @@ fn header_of(bytes: &[u8]) -> Result<Form, PcapFault>
     }
 }
 
-/// What the head of a record tells: the seconds, the fraction of a second in nanoseconds, and how
-/// many bytes of the frame follow.
+/// What the head of a record tells, which is four numbers of four bytes each: the seconds, the
+/// fraction of a second, here in nanoseconds, and how many bytes of the frame follow. The fourth, how
+/// long the frame was on the wire, is not looked at.
 #[derive(Clone, Copy)]
 struct RecordHead {
     seconds: u32,
@@ -67,8 +68,7 @@ impl RecordHead {
     }
 }
 
-/// The head at the front of the bytes. How long the frame was on the wire, its last number, is not
-/// looked at.
+/// The head at the front of the bytes.
 fn head_of(form: Form, bytes: &[u8]) -> RecordHead
     requires { HEAD_LENGTH ≤ length bytes.now }
     ensures seconds { result.seconds ≡ number form.order bytes.now }
