@@ -48,13 +48,13 @@ kept-with p d c s v =
     record { same_shape = subst S (sym e) s; still_valid = λ _. subst V (sym e) v }
 
 -- a write into the Ethernet header leaves what is behind it
-drop-put_two : (bytes : List ℕ) (p v : ℕ) → p ≤ 12 → drop 14 (put_two bytes p v) ≡ drop 14 bytes
+pub drop-put_two : (bytes : List ℕ) (p v : ℕ) → p ≤ 12 → drop 14 (put_two bytes p v) ≡ drop 14 bytes
 drop-put_two bytes p v within =
     let here : p < 14 = omega arith in
     let next : p + 1 < 14 = omega arith in
     drop-set-lt 14 (set bytes p (v / 256 % 256)) (p + 1) (v % 256) next ∙ drop-set-lt 14 bytes p (v / 256 % 256) here
 
-drop-put_six : (bytes : List ℕ) (p v : ℕ) → p ≤ 8 → drop 14 (put_six bytes p v) ≡ drop 14 bytes
+pub drop-put_six : (bytes : List ℕ) (p v : ℕ) → p ≤ 8 → drop 14 (put_six bytes p v) ≡ drop 14 bytes
 drop-put_six bytes p v within =
     drop-put_two _ (p + 2 + 2) v (omega arith)
     ∙ drop-put_two _ (p + 2) (v / 65536) (omega arith)

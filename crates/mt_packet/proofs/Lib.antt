@@ -8,3 +8,5 @@ pub mod Shape
 pub mod Right
 pub mod Valid
 pub mod Kept
+pub mod Reading
+pub mod After
