@@ -1,5 +1,5 @@
 -- The header of a packet after a write.
-use Rattle.std.proofs.Common.{◌≡◌, ◌≢◌, ◌∙◌, sym, ap, subst, refl, ℕ, ◌+◌, ◌-◌, ◌*◌, ◌/◌, ◌%◌, ◌<◌, ◌≤◌, List, [], ◌∷◌, ◌++◌, length, get_or, set, take, drop, min, Bool, true, false, cond, if◌then◌else◌, nat_lt, length-append, inl, inr, ◌⊎◌, arith}
+use Rattle.std.proofs.Common.{◌≡◌, ◌∙◌, sym, ap, refl, ℕ, ◌+◌, ◌/◌, ◌%◌, ◌<◌, ◌≤◌, List, [], ◌++◌, length, get_or, set, take, drop, Bool, true, false, if◌then◌else◌, nat_lt, length-append, inl, inr, ◌⊎◌, arith}
 use Rattle.std.proofs.Math.ListN.{get_or-append}
 use Rattle.std.proofs.lemmas.Bool.Decides.{nat_tests}
 use Rattle.std.proofs.lemmas.List.{get_or-drop, get_or-take, length-take, length-drop, length-set}
@@ -8,11 +8,10 @@ use Rattle.mt_packet.proofs.Reading.{SameEthernet, put_two-apart, put_four-apart
 use Rattle.mt_packet.proofs.Shape.{SameShape}
 use Rattle.mt_packet.proofs.Valid.{shape-address, shape-port, shape-ttl, shape-dscp}
 use Rattle.mt_packet.proofs.Views.{behind}
-use Rattle.mt_packet.specs.Field.{two_bytes_at, four_bytes_at, six_bytes_at, eth_type_of, eth_dst_of, eth_src_of, arp_op_of}
-use Rattle.mt_packet.specs.Header.{fields_of, number_of}
-use Rattle.mt_packet.specs.Ipv4.{IsValidIpv4, header_length, has_ports}
+use Rattle.mt_packet.specs.Field.{four_bytes_at, six_bytes_at, eth_type_of, eth_dst_of, eth_src_of, arp_op_of}
+use Rattle.mt_packet.specs.Header.{fields_of}
 use Rattle.mt_packet.specs.Packet.{PacketState, has_ethernet, frame_of, datagram_of, with_datagram, packet_header, with_field, header_after, CanWrite, IsChecked}
-use Rattle.mt_packet.specs.Write.{put_two, put_four, put_six, with_address, with_port, with_dscp, with_ttl}
+use Rattle.mt_packet.specs.Write.{put_two, put_six}
 use Rattle.mt_packet.specs.declared.field.Field.{Field}
 use Rattle.mt_packet.specs.declared.field.Field.TheVariants.{Device, EthType, EthDst, EthSrc, ArpOp, Proto, Src, Dst, Dscp, Ecn, Sport, Dport, IcmpType, IpOk, Ports, Mf, FragOff, Ttl, Syn, Ack, Fin, Rst, Paint, Annotation}
 

@@ -1,5 +1,5 @@
 -- What a packet keeps through each call: a valid packet stays valid, and its shape stays.
-use Rattle.std.proofs.Common.{◌≡◌, ◌≢◌, ◌∙◌, sym, ap, subst, refl, ℕ, ◌+◌, ◌-◌, ◌*◌, ◌/◌, ◌%◌, ◌<◌, ◌≤◌, List, [], ◌∷◌, ◌++◌, length, get_or, set, take, drop, Bool, true, false, cond, if◌then◌else◌, IsTrue, min, nat_le, arith}
+use Rattle.std.proofs.Common.{◌≡◌, ◌∙◌, sym, ap, subst, refl, ℕ, ◌+◌, ◌/◌, ◌%◌, ◌<◌, ◌≤◌, List, ◌++◌, length, set, take, drop, Bool, true, false, if◌then◌else◌, nat_le, arith}
 use Rattle.std.proofs.lemmas.Bool.Decides.{nat_tests}
 use Rattle.std.proofs.lemmas.List.{drop-set-lt, length-drop, length-take, get_or-take}
 use Rattle.std.specs.Bool.{OnTrue}
@@ -7,8 +7,8 @@ use Rattle.mt_packet.proofs.Shape.{SameShape, SameShape-refl, SameShape-trans, S
 use Rattle.mt_packet.proofs.Valid.{choose, valid-cut, valid-header_zero, valid-address, valid-port, valid-ttl, valid-dscp, valid-checked, shape-address, shape-port, shape-ttl, shape-dscp}
 use Rattle.mt_packet.proofs.Views.{behind}
 use Rattle.mt_packet.specs.Ipv4.{IsValidIpv4, is_readable, header_length, total_length, carried_length, has_message, has_ports, frag_off_of, proto_of}
-use Rattle.mt_packet.specs.Packet.{PacketState, has_ethernet, datagram_of, with_datagram, with_field, CanWrite, HasEthernet, IsChecked, HasPorts, checked, checked_datagram, layer_checked}
-use Rattle.mt_packet.specs.Write.{put_two, put_four, put_six, checksum_place, with_address, with_port, with_dscp, with_ttl, with_header_zero, with_tcp_zero}
+use Rattle.mt_packet.specs.Packet.{PacketState, has_ethernet, datagram_of, with_datagram, with_field, CanWrite, IsChecked, checked, checked_datagram, layer_checked}
+use Rattle.mt_packet.specs.Write.{put_two, put_six, checksum_place, with_header_zero, with_tcp_zero}
 use Rattle.mt_packet.specs.declared.field.Field.{Field}
 use Rattle.mt_packet.specs.declared.field.Field.TheVariants.{Device, EthType, EthDst, EthSrc, ArpOp, Proto, Src, Dst, Dscp, Ecn, Sport, Dport, IcmpType, IpOk, Ports, Mf, FragOff, Ttl, Syn, Ack, Fin, Rst, Paint, Annotation}
 use Rattle.mt_packet.specs.declared.layer.Layer.{Layer}

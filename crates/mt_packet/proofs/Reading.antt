@@ -1,16 +1,16 @@
 -- What is read in a datagram after a write: the field that was written has its value, and every other
 -- field has the value that it had.
-use Rattle.std.proofs.Common.{◌≡◌, ◌≢◌, ◌∙◌, sym, ap, subst, refl, ℕ, ◌+◌, ◌-◌, ◌*◌, ◌/◌, ◌%◌, ◌<◌, ◌≤◌, List, [], ◌∷◌, length, get_or, set, take, drop, min, Bool, true, false, cond, eqb, inl, inr, ◌⊎◌, arith}
+use Rattle.std.proofs.Common.{◌≡◌, ◌≢◌, ◌∙◌, sym, ap, refl, ℕ, ◌+◌, ◌*◌, ◌/◌, ◌%◌, ◌<◌, ◌≤◌, List, length, get_or, set, Bool, true, false, cond, eqb, inl, inr, ◌⊎◌, arith}
 use Rattle.std.proofs.lemmas.Bool.Decides.{nat_tests}
 use Rattle.std.proofs.lemmas.List.{get_or-set_other, get_or-set_same, length-set}
 use Rattle.mt_packet.proofs.Frames.{valid-tested}
-use Rattle.mt_packet.proofs.Puts.{message_proto, ports-cases, checksum_within}
+use Rattle.mt_packet.proofs.Puts.{message_proto, ports-cases}
 use Rattle.mt_packet.proofs.Readable.{ports_long}
 use Rattle.mt_packet.proofs.Shape.{SameShape, SameShape-trans, SameShape-put_two, SameShape-put_four, SameShape-header_checksum, same-header_length, same-readable, same-proto, same-frag_off, same-mf, same-message, same-ports, same-place}
 use Rattle.mt_packet.proofs.Valid.{choose, valid-address, valid-port, valid-ttl, valid-dscp, shape-address, shape-port, shape-ttl, shape-dscp}
 use Rattle.mt_packet.specs.Field.{two_bytes_at, four_bytes_at, eth_type_of, eth_dst_of, eth_src_of, arp_op_of}
 use Rattle.mt_packet.specs.Header.{fields_of}
-use Rattle.mt_packet.specs.Ipv4.{IsValidIpv4, is_valid_ipv4, header_length, is_readable, proto_of, src_of, dst_of, dscp_of, ecn_of, mf_of, frag_off_of, ttl_of, has_message, has_ports, ports_of, sport_of, dport_of, icmp_type_of, tcp_flags_of, syn_of, ack_of, fin_of, rst_of, ip_ok_of}
+use Rattle.mt_packet.specs.Ipv4.{IsValidIpv4, header_length, is_readable, proto_of, src_of, dst_of, dscp_of, ecn_of, mf_of, frag_off_of, ttl_of, has_message, has_ports, ports_of, sport_of, dport_of, icmp_type_of, tcp_flags_of, syn_of, ack_of, fin_of, rst_of, ip_ok_of}
 use Rattle.mt_packet.specs.Write.{put_two, put_four, checksum_place, with_header_checksum, with_transport_checksum, with_address, with_port, with_dscp, with_ttl}
 
 -- a byte at which a write does not stand

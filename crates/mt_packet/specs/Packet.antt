@@ -1,5 +1,5 @@
 -- A packet on its way through a chain.
-use Rattle.std.specs.Prelude.{◌≡◌, ℕ, ◌+◌, ◌<◌, ◌≤◌, List, [], ◌∷◌, ◌++◌, length, take, drop, slice_set, Bool, true, false, IsTrue, if◌then◌else◌}
+use Rattle.std.specs.Prelude.{ℕ, ◌≤◌, List, [], ◌∷◌, ◌++◌, length, take, drop, slice_set, Bool, true, false, IsTrue, if◌then◌else◌}
 use Rattle.mt_packet.specs.Field.{arp_op_of}
 use Rattle.mt_packet.specs.Header.{fields_of, greatest_of, number_of}
 use Rattle.mt_packet.specs.Ipv4.{total_length, dst_of, has_ports, IsValidIpv4}
