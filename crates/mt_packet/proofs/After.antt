@@ -38,13 +38,13 @@ unfolding eth_src_of
 agree-src f g l a b c d e h = cc
 
 -- a datagram of the same shape behind the same Ethernet header
-front : (bytes e : List ℕ) (i : ℕ) → 34 ≤ length bytes → i < 14 → get_or (take 14 bytes ++ e) i 0 ≡ get_or bytes i 0
+pub front : (bytes e : List ℕ) (i : ℕ) → 34 ≤ length bytes → i < 14 → get_or (take 14 bytes ++ e) i 0 ≡ get_or bytes i 0
 front bytes e i long low =
     let n = length-take 14 bytes in
     let here : i < length (take 14 bytes) = omega arith in
     get_or-append (take 14 bytes) e 0 i here ∙ get_or-take 14 bytes i 0 low
 
-back : (bytes e : List ℕ) (i : ℕ) → 34 ≤ length bytes → get_or (take 14 bytes ++ e) (14 + i) 0 ≡ get_or e i 0
+pub back : (bytes e : List ℕ) (i : ℕ) → 34 ≤ length bytes → get_or (take 14 bytes ++ e) (14 + i) 0 ≡ get_or e i 0
 back bytes e i long =
     sym (get_or-drop 14 (take 14 bytes ++ e) i 0) ∙ ap (λ l. get_or l i 0) (behind bytes e (omega arith))
 

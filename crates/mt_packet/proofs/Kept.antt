@@ -116,13 +116,13 @@ written-ports p q field v c e =
     ap (λ r. has_ports (datagram_of r)) e ∙ same-ports _ _ (with_field-kept p field v c).same_shape
 
 -- a checked packet is valid
-checked-layer : (l : Layer) → has_ethernet (layer_checked l) ≡ has_ethernet l
+pub checked-layer : (l : Layer) → has_ethernet (layer_checked l) ≡ has_ethernet l
 checked-layer Frame = refl
 checked-layer Bare = refl
 checked-layer Ip = refl
 checked-layer Framed = refl
 
-datagram_of-checked : (p : PacketState) → IsChecked p → datagram_of (checked p) ≡ checked_datagram (datagram_of p)
+pub datagram_of-checked : (p : PacketState) → IsChecked p → datagram_of (checked p) ≡ checked_datagram (datagram_of p)
 datagram_of-checked p v =
     ap (λ b. if b then drop 14 (checked p).bytes else (checked p).bytes) (checked-layer p.layer)
     ∙ datagram_of-with p (checked_datagram (datagram_of p)) v
@@ -132,18 +132,18 @@ checked-checked p v =
     let V : List ℕ → Type 0 = λ d. IsValidIpv4 d in
     subst V (sym (datagram_of-checked p v)) (valid-checked (datagram_of p) v)
 
-header_zero-shape : (d : List ℕ) → SameShape d (with_header_zero d)
+pub header_zero-shape : (d : List ℕ) → SameShape d (with_header_zero d)
 unfolding with_header_zero
 header_zero-shape d =
     choose _ (λ e. SameShape d e) _ _ (λ _. SameShape-put_two d 10 0 (omega arith)) (λ _. SameShape-refl d)
 
-tcp_zero-shape : (d : List ℕ) → 20 ≤ header_length d → SameShape d (with_tcp_zero d)
+pub tcp_zero-shape : (d : List ℕ) → 20 ≤ header_length d → SameShape d (with_tcp_zero d)
 unfolding with_tcp_zero
 tcp_zero-shape d least =
     choose _ (λ e. SameShape d e) _ _ (λ _. SameShape-put_two d (checksum_place d) 0 (omega arith)) (λ _. SameShape-refl d)
 
 -- what a cut to the total length leaves
-cut-message : (d : List ℕ) (protocol least : ℕ) → IsValidIpv4 d
+pub cut-message : (d : List ℕ) (protocol least : ℕ) → IsValidIpv4 d
     → has_message (take (total_length d) d) protocol least ≡ has_message d protocol least
 unfolding has_message is_readable frag_off_of proto_of
 cut-message d protocol least v =
@@ -162,11 +162,11 @@ cut-message d protocol least v =
     cc
 
 -- a checked packet has visible ports where it had them
-cut-ports : (d : List ℕ) → IsValidIpv4 d → has_ports (take (total_length d) d) ≡ has_ports d
+pub cut-ports : (d : List ℕ) → IsValidIpv4 d → has_ports (take (total_length d) d) ≡ has_ports d
 unfolding has_ports
 cut-ports d v = let t = cut-message d 6 20 v in let u = cut-message d 17 8 v in cc
 
-zeros-shape : (d : List ℕ) → IsValidIpv4 d → SameShape d (with_tcp_zero (with_header_zero d))
+pub zeros-shape : (d : List ℕ) → IsValidIpv4 d → SameShape d (with_tcp_zero (with_header_zero d))
 zeros-shape d v =
     SameShape-trans d _ _ (header_zero-shape d) (tcp_zero-shape (with_header_zero d) (valid-header_zero d v).header_is_long_enough)
 

@@ -10,3 +10,4 @@ pub mod Valid
 pub mod Kept
 pub mod Reading
 pub mod After
+pub mod Judged

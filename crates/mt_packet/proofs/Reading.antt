@@ -74,25 +74,25 @@ port-apart d p v i far a b k l =
     transport-apart (put_two d p v) _ _ i k' l' ∙ put_two-apart d p v i a b
 
 -- fields of datagrams of one shape whose bytes there are the same
-same-src : (d e : List ℕ) → SameShape d e → get_or e 12 0 ≡ get_or d 12 0 → get_or e 13 0 ≡ get_or d 13 0
+pub same-src : (d e : List ℕ) → SameShape d e → get_or e 12 0 ≡ get_or d 12 0 → get_or e 13 0 ≡ get_or d 13 0
     → get_or e 14 0 ≡ get_or d 14 0 → get_or e 15 0 ≡ get_or d 15 0 → src_of e ≡ src_of d
 unfolding src_of
 same-src d e s a b f g = let r = same-readable d e s in cc
 
-same-dst : (d e : List ℕ) → SameShape d e → get_or e 16 0 ≡ get_or d 16 0 → get_or e 17 0 ≡ get_or d 17 0
+pub same-dst : (d e : List ℕ) → SameShape d e → get_or e 16 0 ≡ get_or d 16 0 → get_or e 17 0 ≡ get_or d 17 0
     → get_or e 18 0 ≡ get_or d 18 0 → get_or e 19 0 ≡ get_or d 19 0 → dst_of e ≡ dst_of d
 unfolding dst_of
 same-dst d e s a b f g = let r = same-readable d e s in cc
 
-same-dscp : (d e : List ℕ) → SameShape d e → get_or e 1 0 ≡ get_or d 1 0 → dscp_of e ≡ dscp_of d
+pub same-dscp : (d e : List ℕ) → SameShape d e → get_or e 1 0 ≡ get_or d 1 0 → dscp_of e ≡ dscp_of d
 unfolding dscp_of
 same-dscp d e s a = let r = same-readable d e s in cc
 
-same-ecn : (d e : List ℕ) → SameShape d e → get_or e 1 0 % 4 ≡ get_or d 1 0 % 4 → ecn_of e ≡ ecn_of d
+pub same-ecn : (d e : List ℕ) → SameShape d e → get_or e 1 0 % 4 ≡ get_or d 1 0 % 4 → ecn_of e ≡ ecn_of d
 unfolding ecn_of
 same-ecn d e s a = let r = same-readable d e s in cc
 
-same-ttl : (d e : List ℕ) → SameShape d e → get_or e 8 0 ≡ get_or d 8 0 → ttl_of e ≡ ttl_of d
+pub same-ttl : (d e : List ℕ) → SameShape d e → get_or e 8 0 ≡ get_or d 8 0 → ttl_of e ≡ ttl_of d
 unfolding ttl_of
 same-ttl d e s a = let r = same-readable d e s in cc
 
@@ -100,11 +100,11 @@ same-ports_of : (d e : List ℕ) → SameShape d e → ports_of e ≡ ports_of d
 unfolding ports_of
 same-ports_of d e s = let p = same-ports d e s in cc
 
-same-two : (d e : List ℕ) (m n : ℕ) → m ≡ n → get_or e n 0 ≡ get_or d n 0 → get_or e (n + 1) 0 ≡ get_or d (n + 1) 0
+pub same-two : (d e : List ℕ) (m n : ℕ) → m ≡ n → get_or e n 0 ≡ get_or d n 0 → get_or e (n + 1) 0 ≡ get_or d (n + 1) 0
     → two_bytes_at e m ≡ two_bytes_at d n
 same-two d e m n h a b = cc
 
-same-sport : (d e : List ℕ) → SameShape d e → get_or e (header_length d) 0 ≡ get_or d (header_length d) 0
+pub same-sport : (d e : List ℕ) → SameShape d e → get_or e (header_length d) 0 ≡ get_or d (header_length d) 0
     → get_or e (header_length d + 1) 0 ≡ get_or d (header_length d + 1) 0 → sport_of e ≡ sport_of d
 unfolding sport_of
 same-sport d e s a b =
@@ -112,7 +112,7 @@ same-sport d e s a b =
     let t = same-two d e (header_length e) (header_length d) (same-header_length d e s) a b in
     cc
 
-same-dport : (d e : List ℕ) → SameShape d e → get_or e (header_length d + 2) 0 ≡ get_or d (header_length d + 2) 0
+pub same-dport : (d e : List ℕ) → SameShape d e → get_or e (header_length d + 2) 0 ≡ get_or d (header_length d + 2) 0
     → get_or e (header_length d + 2 + 1) 0 ≡ get_or d (header_length d + 2 + 1) 0 → dport_of e ≡ dport_of d
 unfolding dport_of
 same-dport d e s a b =
@@ -120,7 +120,7 @@ same-dport d e s a b =
     let t = same-two d e (header_length e + 2) (header_length d + 2) (ap (λ n. n + 2) (same-header_length d e s)) a b in
     cc
 
-same-icmp : (d e : List ℕ) → SameShape d e → get_or e (header_length d) 0 ≡ get_or d (header_length d) 0 → icmp_type_of e ≡ icmp_type_of d
+pub same-icmp : (d e : List ℕ) → SameShape d e → get_or e (header_length d) 0 ≡ get_or d (header_length d) 0 → icmp_type_of e ≡ icmp_type_of d
 unfolding icmp_type_of
 same-icmp d e s a =
     let m = same-message d e 1 8 s in
@@ -135,7 +135,7 @@ same-flags d e s a =
     let t : get_or e (header_length e + 13) 0 ≡ get_or d (header_length d + 13) 0 = ap (λ n. get_or e (n + 13) 0) (same-header_length d e s) ∙ a in
     cc
 
-same-ip_ok : (d e : List ℕ) → IsValidIpv4 d → IsValidIpv4 e → ip_ok_of e ≡ ip_ok_of d
+pub same-ip_ok : (d e : List ℕ) → IsValidIpv4 d → IsValidIpv4 e → ip_ok_of e ≡ ip_ok_of d
 unfolding ip_ok_of
 same-ip_ok d e v w = let a = valid-tested d v in let b = valid-tested e w in cc
 
@@ -165,13 +165,13 @@ same-icmp-ports d e s h =
     cc
 
 -- the transport checksum stands behind the ports, and apart from the flags
-place-beyond : (d : List ℕ) → header_length d + 6 ≤ checksum_place d
+pub place-beyond : (d : List ℕ) → header_length d + 6 ≤ checksum_place d
 place-beyond d = elim (place-cases d) [ inl e ↦ omega arith | inr e ↦ omega arith ]
 
-flags-low : (d : List ℕ) → header_length d + 13 ≢ checksum_place d
+pub flags-low : (d : List ℕ) → header_length d + 13 ≢ checksum_place d
 flags-low d = elim (place-cases d) [ inl e ↦ omega arith | inr e ↦ omega arith ]
 
-flags-high : (d : List ℕ) → header_length d + 13 ≢ checksum_place d + 1
+pub flags-high : (d : List ℕ) → header_length d + 13 ≢ checksum_place d + 1
 flags-high d = elim (place-cases d) [ inl e ↦ omega arith | inr e ↦ omega arith ]
 
 -- a number that is put into bytes is read there
@@ -220,7 +220,7 @@ pub record SameRest (old new : List ℕ) : Type 0 where
   pub r_fin : fin_of new ≡ fin_of old
   pub r_rst : rst_of new ≡ rst_of old
 
-rest-from : (d e : List ℕ) → SameShape d e → IsValidIpv4 d → IsValidIpv4 e → icmp_type_of e ≡ icmp_type_of d
+pub rest-from : (d e : List ℕ) → SameShape d e → IsValidIpv4 d → IsValidIpv4 e → icmp_type_of e ≡ icmp_type_of d
     → get_or e (header_length d + 13) 0 ≡ get_or d (header_length d + 13) 0 → SameRest d e
 unfolding syn_of ack_of fin_of rst_of
 rest-from d e s v w i a =
@@ -238,7 +238,7 @@ rest-from d e s v w i a =
       r_rst = ap (λ n. n / 4 % 2) f;
     }
 
-valid-readable : (d : List ℕ) → IsValidIpv4 d → is_readable d ≡ true
+pub valid-readable : (d : List ℕ) → IsValidIpv4 d → is_readable d ≡ true
 unfolding is_readable
 valid-readable d v = let a = v.has_fixed_part in let b = v.is_version_4 in grind (arith, nat_tests)
 
