@@ -11,3 +11,4 @@ pub mod Kept
 pub mod Reading
 pub mod After
 pub mod Judged
+pub mod Rows
