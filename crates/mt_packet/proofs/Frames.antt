@@ -1,12 +1,12 @@
 -- The IPv4 packet behind the Ethernet header of a frame.
-use Rattle.std.proofs.Common.{◌≡◌, ◌∙◌, sym, ap, refl, ℕ, ◌+◌, ◌-◌, ◌*◌, ◌/◌, ◌%◌, ◌<◌, ◌≤◌, List, [], ◌∷◌, ◌++◌, length, get_or, set, take, drop, sum, Bool, true, false, cond, arith, ◌↔◌, IsTrue}
+use Rattle.std.proofs.Common.{◌≡◌, ◌∙◌, sym, refl, ℕ, ◌+◌, ◌≤◌, List, [], ◌∷◌, ◌++◌, length, take, drop, Bool, true, arith, ◌↔◌, IsTrue}
 use Rattle.std.proofs.lemmas.Bool.Decides.{nat_tests}
 use Rattle.std.proofs.lemmas.Grind.{common_steps}
 use Rattle.std.proofs.lemmas.List.{length-drop, take-take, drop-take}
 use Rattle.mt_packet.proofs.Readable.{ports_long}
 use Rattle.mt_packet.specs.Ipv4.{header_length, total_length, has_ports, IsValidIpv4, is_valid_ipv4, is_readable}
 use Rattle.mt_packet.specs.Packet.{ethernet_header}
-use Rattle.mt_packet.specs.Write.{put_two, put_six, HasHeader}
+use Rattle.mt_packet.specs.Write.{put_two, put_six}
 
 -- a header with visible ports lies in a frame of at least 34 bytes
 pub ports_behind : (frame : List ℕ) → has_ports (drop 14 frame) ≡ true

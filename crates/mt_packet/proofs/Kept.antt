@@ -1,5 +1,5 @@
 -- What a packet keeps through each call: a valid packet stays valid, and its shape stays.
-use Rattle.std.proofs.Common.{◌≡◌, ◌≢◌, ◌∙◌, sym, ap, subst, refl, ℕ, ◌+◌, ◌-◌, ◌*◌, ◌/◌, ◌%◌, ◌<◌, ◌≤◌, List, [], ◌∷◌, ◌++◌, length, get_or, set, take, drop, Bool, true, false, cond, if◌then◌else◌, IsTrue, min, nat_le, arith}
+use Rattle.std.proofs.Common.{◌≡◌, ◌∙◌, sym, ap, subst, refl, ℕ, ◌+◌, ◌/◌, ◌%◌, ◌<◌, ◌≤◌, List, ◌++◌, length, set, take, drop, Bool, true, false, if◌then◌else◌, nat_le, arith}
 use Rattle.std.proofs.lemmas.Bool.Decides.{nat_tests}
 use Rattle.std.proofs.lemmas.List.{drop-set-lt, length-drop, length-take, get_or-take}
 use Rattle.std.specs.Bool.{OnTrue}
@@ -7,8 +7,8 @@ use Rattle.mt_packet.proofs.Shape.{SameShape, SameShape-refl, SameShape-trans, S
 use Rattle.mt_packet.proofs.Valid.{choose, valid-cut, valid-header_zero, valid-address, valid-port, valid-ttl, valid-dscp, valid-checked, shape-address, shape-port, shape-ttl, shape-dscp}
 use Rattle.mt_packet.proofs.Views.{behind}
 use Rattle.mt_packet.specs.Ipv4.{IsValidIpv4, is_readable, header_length, total_length, carried_length, has_message, has_ports, frag_off_of, proto_of}
-use Rattle.mt_packet.specs.Packet.{PacketState, has_ethernet, datagram_of, with_datagram, with_field, CanWrite, HasEthernet, IsChecked, HasPorts, checked, checked_datagram, layer_checked}
-use Rattle.mt_packet.specs.Write.{put_two, put_four, put_six, checksum_place, with_address, with_port, with_dscp, with_ttl, with_header_zero, with_tcp_zero}
+use Rattle.mt_packet.specs.Packet.{PacketState, has_ethernet, datagram_of, with_datagram, with_field, CanWrite, IsChecked, checked, checked_datagram, layer_checked}
+use Rattle.mt_packet.specs.Write.{put_two, put_six, checksum_place, with_header_zero, with_tcp_zero}
 use Rattle.mt_packet.specs.declared.field.Field.{Field}
 use Rattle.mt_packet.specs.declared.field.Field.TheVariants.{Device, EthType, EthDst, EthSrc, ArpOp, Proto, Src, Dst, Dscp, Ecn, Sport, Dport, IcmpType, IpOk, Ports, Mf, FragOff, Ttl, Syn, Ack, Fin, Rst, Paint, Annotation}
 use Rattle.mt_packet.specs.declared.layer.Layer.{Layer}
@@ -48,13 +48,13 @@ kept-with p d c s v =
     record { same_shape = subst S (sym e) s; still_valid = λ _. subst V (sym e) v }
 
 -- a write into the Ethernet header leaves what is behind it
-drop-put_two : (bytes : List ℕ) (p v : ℕ) → p ≤ 12 → drop 14 (put_two bytes p v) ≡ drop 14 bytes
+pub drop-put_two : (bytes : List ℕ) (p v : ℕ) → p ≤ 12 → drop 14 (put_two bytes p v) ≡ drop 14 bytes
 drop-put_two bytes p v within =
     let here : p < 14 = omega arith in
     let next : p + 1 < 14 = omega arith in
     drop-set-lt 14 (set bytes p (v / 256 % 256)) (p + 1) (v % 256) next ∙ drop-set-lt 14 bytes p (v / 256 % 256) here
 
-drop-put_six : (bytes : List ℕ) (p v : ℕ) → p ≤ 8 → drop 14 (put_six bytes p v) ≡ drop 14 bytes
+pub drop-put_six : (bytes : List ℕ) (p v : ℕ) → p ≤ 8 → drop 14 (put_six bytes p v) ≡ drop 14 bytes
 drop-put_six bytes p v within =
     drop-put_two _ (p + 2 + 2) v (omega arith)
     ∙ drop-put_two _ (p + 2) (v / 65536) (omega arith)
@@ -116,13 +116,13 @@ written-ports p q field v c e =
     ap (λ r. has_ports (datagram_of r)) e ∙ same-ports _ _ (with_field-kept p field v c).same_shape
 
 -- a checked packet is valid
-checked-layer : (l : Layer) → has_ethernet (layer_checked l) ≡ has_ethernet l
+pub checked-layer : (l : Layer) → has_ethernet (layer_checked l) ≡ has_ethernet l
 checked-layer Frame = refl
 checked-layer Bare = refl
 checked-layer Ip = refl
 checked-layer Framed = refl
 
-datagram_of-checked : (p : PacketState) → IsChecked p → datagram_of (checked p) ≡ checked_datagram (datagram_of p)
+pub datagram_of-checked : (p : PacketState) → IsChecked p → datagram_of (checked p) ≡ checked_datagram (datagram_of p)
 datagram_of-checked p v =
     ap (λ b. if b then drop 14 (checked p).bytes else (checked p).bytes) (checked-layer p.layer)
     ∙ datagram_of-with p (checked_datagram (datagram_of p)) v
@@ -132,18 +132,18 @@ checked-checked p v =
     let V : List ℕ → Type 0 = λ d. IsValidIpv4 d in
     subst V (sym (datagram_of-checked p v)) (valid-checked (datagram_of p) v)
 
-header_zero-shape : (d : List ℕ) → SameShape d (with_header_zero d)
+pub header_zero-shape : (d : List ℕ) → SameShape d (with_header_zero d)
 unfolding with_header_zero
 header_zero-shape d =
     choose _ (λ e. SameShape d e) _ _ (λ _. SameShape-put_two d 10 0 (omega arith)) (λ _. SameShape-refl d)
 
-tcp_zero-shape : (d : List ℕ) → 20 ≤ header_length d → SameShape d (with_tcp_zero d)
+pub tcp_zero-shape : (d : List ℕ) → 20 ≤ header_length d → SameShape d (with_tcp_zero d)
 unfolding with_tcp_zero
 tcp_zero-shape d least =
     choose _ (λ e. SameShape d e) _ _ (λ _. SameShape-put_two d (checksum_place d) 0 (omega arith)) (λ _. SameShape-refl d)
 
 -- what a cut to the total length leaves
-cut-message : (d : List ℕ) (protocol least : ℕ) → IsValidIpv4 d
+pub cut-message : (d : List ℕ) (protocol least : ℕ) → IsValidIpv4 d
     → has_message (take (total_length d) d) protocol least ≡ has_message d protocol least
 unfolding has_message is_readable frag_off_of proto_of
 cut-message d protocol least v =
@@ -162,11 +162,11 @@ cut-message d protocol least v =
     cc
 
 -- a checked packet has visible ports where it had them
-cut-ports : (d : List ℕ) → IsValidIpv4 d → has_ports (take (total_length d) d) ≡ has_ports d
+pub cut-ports : (d : List ℕ) → IsValidIpv4 d → has_ports (take (total_length d) d) ≡ has_ports d
 unfolding has_ports
 cut-ports d v = let t = cut-message d 6 20 v in let u = cut-message d 17 8 v in cc
 
-zeros-shape : (d : List ℕ) → IsValidIpv4 d → SameShape d (with_tcp_zero (with_header_zero d))
+pub zeros-shape : (d : List ℕ) → IsValidIpv4 d → SameShape d (with_tcp_zero (with_header_zero d))
 zeros-shape d v =
     SameShape-trans d _ _ (header_zero-shape d) (tcp_zero-shape (with_header_zero d) (valid-header_zero d v).header_is_long_enough)
 

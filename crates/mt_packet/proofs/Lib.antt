@@ -8,3 +8,7 @@ pub mod Shape
 pub mod Right
 pub mod Valid
 pub mod Kept
+pub mod Reading
+pub mod After
+pub mod Judged
+pub mod Rows

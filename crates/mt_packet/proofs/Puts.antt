@@ -1,8 +1,8 @@
 -- Numbers put into bytes.
-use Rattle.std.proofs.Common.{◌≡◌, ◌≢◌, ◌∙◌, sym, ap, refl, ℕ, zero, suc, ◌+◌, ◌-◌, ◌*◌, ◌/◌, ◌%◌, ◌<◌, ◌≤◌, List, [], ◌∷◌, ◌++◌, length, get_or, set, take, drop, sum, Bool, true, false, cond, arith, ◌||◌, ◌⊎◌, inl, inr}
+use Rattle.std.proofs.Common.{◌≡◌, ◌≢◌, ◌∙◌, ap, refl, ℕ, ◌+◌, ◌-◌, ◌/◌, ◌%◌, ◌<◌, ◌≤◌, List, length, set, take, sum, Bool, true, false, arith, ◌||◌, ◌⊎◌, inl, inr}
 use Rattle.std.proofs.lemmas.Bool.Decides.{nat_tests}
 use Rattle.std.proofs.lemmas.Grind.{common_steps}
-use Rattle.std.proofs.lemmas.List.{set-set, set_comm, get_or-set_other, length-set}
+use Rattle.std.proofs.lemmas.List.{set-set, set_comm}
 use Rattle.mt_packet.proofs.Readable.{tcp_long, udp_long}
 use Rattle.mt_packet.specs.Checksum.{words_of, ones_complement, negative_of}
 use Rattle.mt_packet.specs.Ipv4.{header_length, has_ports, has_message, proto_of}

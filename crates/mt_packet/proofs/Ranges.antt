@@ -1,10 +1,10 @@
 -- Each value of a frame's header is in its field's range.
-use Rattle.std.proofs.Common.{◌≡◌, ℕ, ◌+◌, ◌*◌, ◌/◌, ◌%◌, ◌<◌, ◌≤◌, List, [], ◌∷◌, length, get_or, drop, min, Bool, true, false, cond, subst, sym, arith}
+use Rattle.std.proofs.Common.{◌≡◌, ℕ, ◌+◌, ◌≤◌, List, drop, subst, sym, arith}
 use Rattle.std.proofs.lemmas.Bool.Decides.{nat_tests}
 use Rattle.std.proofs.lemmas.List.{get_or-drop, get_or-take}
 use Rattle.mt_packet.specs.Field.{two_bytes_at, four_bytes_at, six_bytes_at, eth_type_of, eth_dst_of, eth_src_of, arp_op_of}
-use Rattle.mt_packet.specs.Header.{field_of, number_of, greatest_of, IsVisible, InRanges, InVisibleRanges, AreBytes, fields_of, header_of, visible_of}
-use Rattle.mt_packet.specs.Ipv4.{is_readable, header_length, has_message, has_ports, is_valid_ipv4, proto_of, src_of, dst_of, dscp_of, ecn_of, sport_of, dport_of, icmp_type_of, ip_ok_of, ports_of, mf_of, frag_off_of, ttl_of, tcp_flags_of, syn_of, ack_of, fin_of, rst_of}
+use Rattle.mt_packet.specs.Header.{field_of, number_of, greatest_of, InRanges, InVisibleRanges, AreBytes, fields_of, header_of, visible_of}
+use Rattle.mt_packet.specs.Ipv4.{header_length, proto_of, src_of, dst_of, dscp_of, ecn_of, sport_of, dport_of, icmp_type_of, ip_ok_of, ports_of, mf_of, frag_off_of, ttl_of, syn_of, ack_of, fin_of, rst_of}
 use Rattle.mt_packet.specs.declared.field.Field.{Field}
 use Rattle.mt_packet.specs.declared.field.Field.TheVariants.{Device, EthType, EthDst, EthSrc, ArpOp, Proto, Src, Dst, Dscp, Ecn, Sport, Dport, IcmpType, IpOk, Ports, Mf, FragOff, Ttl, Syn, Ack, Fin, Rst, Paint, Annotation}
 

@@ -1,7 +1,7 @@
 -- What the tests of an IPv4 packet say of its length.
-use Rattle.std.proofs.Common.{◌≡◌, ℕ, ◌+◌, ◌*◌, ◌%◌, ◌<◌, ◌≤◌, List, length, get_or, true, arith}
+use Rattle.std.proofs.Common.{◌≡◌, ℕ, ◌+◌, ◌≤◌, List, length, true, arith}
 use Rattle.std.proofs.lemmas.Grind.{common_steps}
-use Rattle.mt_packet.specs.Ipv4.{is_readable, header_length, proto_of, has_message, has_ports}
+use Rattle.mt_packet.specs.Ipv4.{is_readable, header_length, has_message, has_ports}
 
 -- a readable packet has its fixed part
 pub readable_long : (datagram : List ℕ) → is_readable datagram ≡ true → 20 ≤ length datagram

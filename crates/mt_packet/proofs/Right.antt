@@ -1,14 +1,14 @@
 -- The header checksum is right after a write.
-use Rattle.std.proofs.Common.{◌≡◌, ◌≢◌, ◌∙◌, sym, ap, refl, ℕ, ◌+◌, ◌-◌, ◌*◌, ◌/◌, ◌%◌, ◌<◌, ◌≤◌, List, [], ◌∷◌, length, get_or, set, take, min, sum, arith}
+use Rattle.std.proofs.Common.{◌≡◌, ◌∙◌, sym, ap, refl, ℕ, ◌+◌, ◌*◌, ◌/◌, ◌%◌, ◌<◌, ◌≤◌, List, [], ◌∷◌, length, get_or, set, take, sum, arith}
 use Rattle.std.proofs.Math.Seq.{take-set-lt}
 use Rattle.std.proofs.lemmas.Bool.Decides.{nat_tests}
-use Rattle.std.proofs.lemmas.List.{get_or-set_other, get_or-take, length-set, length-take, take-set-le}
+use Rattle.std.proofs.lemmas.List.{get_or-take, length-take, take-set-le}
 use Rattle.mt_packet.proofs.Sums.{sum-cons}
-use Rattle.mt_packet.proofs.Shape.{SameShape, SameShape-put_two, same-header_length}
+use Rattle.mt_packet.proofs.Shape.{SameShape-put_two, same-header_length}
 use Rattle.mt_packet.specs.Checksum.{words_of, ones_complement, negative_of}
 use Rattle.mt_packet.specs.Field.{two_bytes_at}
 use Rattle.mt_packet.specs.Ipv4.{header_length}
-use Rattle.mt_packet.specs.Write.{put_two, with_header_checksum, header_checksum}
+use Rattle.mt_packet.specs.Write.{put_two, with_header_checksum}
 
 -- the sum of the words of a datagram's header
 abbrev pub header_sum : List ℕ → ℕ

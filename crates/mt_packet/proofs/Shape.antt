@@ -1,12 +1,11 @@
 -- Two datagrams of one shape: the bytes on which the tests and the places of all fields depend.
-use Rattle.std.proofs.Common.{◌≡◌, ◌≢◌, ◌∙◌, sym, ap, refl, ℕ, ◌+◌, ◌-◌, ◌*◌, ◌/◌, ◌%◌, ◌<◌, ◌≤◌, List, length, get_or, set, Bool, true, false, inl, inr, arith}
+use Rattle.std.proofs.Common.{◌≡◌, ◌≢◌, ◌∙◌, ap, refl, ℕ, ◌+◌, ◌*◌, ◌/◌, ◌%◌, ◌≤◌, List, length, get_or, set, true, inl, inr, arith}
 use Rattle.std.proofs.lemmas.Bool.Decides.{nat_tests}
 use Rattle.std.proofs.lemmas.Grind.{common_steps}
 use Rattle.std.proofs.lemmas.List.{get_or-set_other, length-set}
-use Rattle.mt_packet.proofs.Readable.{tcp_long, udp_long}
 use Rattle.mt_packet.proofs.Puts.{ports-cases}
-use Rattle.mt_packet.specs.Ipv4.{header_length, total_length, carried_length, is_readable, proto_of, frag_off_of, mf_of, has_message, has_ports}
-use Rattle.mt_packet.specs.Write.{put_two, put_four, checksum_place, with_header_checksum, with_transport_checksum}
+use Rattle.mt_packet.specs.Ipv4.{header_length, total_length, is_readable, proto_of, frag_off_of, mf_of, has_message, has_ports}
+use Rattle.mt_packet.specs.Write.{put_two, put_four, checksum_place, with_header_checksum}
 
 -- the second has the length and the shaping bytes of the first
 pub record SameShape (old new : List ℕ) : Type 0 where

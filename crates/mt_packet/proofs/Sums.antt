@@ -1,9 +1,9 @@
 -- Sums of words, and their ones' complement numbers.
-use Rattle.std.proofs.Common.{◌≡◌, ◌∙◌, sym, ap, refl, ℕ, ◌+◌, ◌-◌, ◌*◌, ◌%◌, ◌<◌, ◌≤◌, List, [], ◌∷◌, ◌++◌, length, drop, sum, fold, zero-add, arith}
+use Rattle.std.proofs.Common.{◌≡◌, ◌∙◌, sym, ap, ℕ, ◌+◌, ◌%◌, ◌≤◌, List, [], ◌∷◌, ◌++◌, length, drop, sum, fold, zero-add, arith}
 use Rattle.std.proofs.lemmas.Bool.Decides.{nat_tests}
 use Rattle.std.proofs.lemmas.List.{drop_all}
 use Rattle.std.proofs.lemmas.List.Sums.{fold-append}
-use Rattle.mt_packet.specs.Checksum.{words_of, ones_complement, negative_of, checksum_after_write, udp_after_write, transport_after_write}
+use Rattle.mt_packet.specs.Checksum.{words_of, ones_complement, negative_of, transport_after_write}
 
 -- a number of 16 bits is its own ones' complement number
 pub ones_complement-small : (n : ℕ) → n ≤ 65535 → ones_complement n ≡ n

@@ -1,14 +1,14 @@
 -- A valid packet stays valid through every write and through the check.
-use Rattle.std.proofs.Common.{◌≡◌, ◌≢◌, ◌∙◌, sym, ap, subst, refl, ℕ, ◌+◌, ◌-◌, ◌*◌, ◌/◌, ◌%◌, ◌<◌, ◌≤◌, List, [], ◌∷◌, length, get_or, set, take, drop, min, sum, Bool, true, false, cond, eqb, arith}
+use Rattle.std.proofs.Common.{◌≡◌, ◌∙◌, ap, refl, ℕ, ◌*◌, ◌/◌, ◌%◌, ◌<◌, ◌≤◌, List, length, get_or, set, take, sum, Bool, true, false, cond, eqb, arith}
 use Rattle.std.proofs.lemmas.Bool.Decides.{nat_tests}
 use Rattle.std.proofs.lemmas.List.{get_or-take, length-take, take-take}
 use Rattle.mt_packet.proofs.Right.{header_sum, ones_complement-right, ones_complement-whole, take-put_two-beyond, header_sum-put, header_sum-held, header_sum-some, mended-right}
 use Rattle.mt_packet.proofs.Shape.{SameShape, SameShape-refl, SameShape-trans, SameShape-set, SameShape-put_two, SameShape-put_four, SameShape-header_checksum, same-header_length, same-total_length}
 use Rattle.mt_packet.specs.Checksum.{words_of, ones_complement}
 use Rattle.mt_packet.specs.Field.{two_bytes_at}
-use Rattle.mt_packet.specs.Ipv4.{IsValidIpv4, header_length, total_length, has_ports, proto_of}
+use Rattle.mt_packet.specs.Ipv4.{IsValidIpv4, header_length, total_length, has_ports}
 use Rattle.mt_packet.specs.Packet.{checked_datagram}
-use Rattle.mt_packet.specs.Write.{put_two, put_four, checksum_place, with_header_checksum, with_transport_checksum, with_address, with_port, with_dscp, with_ttl, with_header_zero, with_tcp_zero, HasHeader}
+use Rattle.mt_packet.specs.Write.{put_two, put_four, checksum_place, with_header_checksum, with_transport_checksum, with_address, with_port, with_dscp, with_ttl, with_header_zero, with_tcp_zero}
 
 -- what holds of both of two lists holds of the one chosen
 pub choose : (b : Bool) (P : List ℕ → Type 0) (x y : List ℕ) → (b ≡ true → P x) → (b ≡ false → P y) → P (cond b x y)

@@ -1,6 +1,6 @@
 -- What contracts see of a packet, of what it keeps.
-use Rattle.std.proofs.Common.{◌≡◌, ◌∙◌, sym, ap, subst, refl, ℕ, ◌+◌, ◌≤◌, List, ◌++◌, length, take, drop, min, arith, Bool, true, false, if◌then◌else◌}
-use Rattle.std.proofs.lemmas.List.{drop_at, take_at, length-take}
+use Rattle.std.proofs.Common.{◌≡◌, ◌∙◌, sym, ap, subst, refl, ℕ, ◌≤◌, List, ◌++◌, length, take, drop, arith, if◌then◌else◌}
+use Rattle.std.proofs.lemmas.List.{drop_at, length-take}
 use Rattle.mt_packet.specs.Ipv4.{dst_of, IsValidIpv4}
 use Rattle.mt_packet.specs.Packet.{PacketState, has_ethernet, datagram_of, layer_checked, checked, checked_datagram}
 use Rattle.mt_packet.specs.declared.layer.Layer.{Layer}

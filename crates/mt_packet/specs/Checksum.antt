@@ -1,5 +1,5 @@
 -- The checksums of RFC 791, RFC 768 and RFC 9293, by plain sums of 16-bit words (RFC 1071).
-use Rattle.std.specs.Prelude.{◌≡◌, ℕ, ◌+◌, ◌-◌, ◌*◌, ◌%◌, List, [], ◌∷◌, sum, ◌==◌, if◌then◌else◌}
+use Rattle.std.specs.Prelude.{ℕ, ◌+◌, ◌-◌, ◌*◌, ◌%◌, List, [], ◌∷◌, sum, ◌==◌, if◌then◌else◌}
 
 -- the 16-bit words of the bytes, in network order; a last odd byte is followed by a byte of 0
 abbrev pub words_of : List ℕ → List ℕ

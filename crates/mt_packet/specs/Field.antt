@@ -1,6 +1,6 @@
 -- The numbers that stand in the bytes of a frame, in network order, and the fields of its Ethernet
 -- header (IEEE 802.3). A place past the end reads as 0.
-use Rattle.std.specs.Prelude.{ℕ, ◌+◌, ◌*◌, List, length, slice_index, nat_lt, ◌==◌, ◌||◌, if◌then◌else◌}
+use Rattle.std.specs.Prelude.{ℕ, ◌+◌, ◌*◌, List, length, slice_index, nat_lt, ◌==◌, if◌then◌else◌}
 
 -- the number in two bytes from a place on, in network order
 abbrev pub two_bytes_at : List ℕ → ℕ → ℕ

@@ -2,7 +2,7 @@
 -- hidden, fields 22 and 23 belong to the packet on its way. The fields and their ranges follow RFC 791,
 -- RFC 768, RFC 9293 and the match fields of OpenFlow 1.3; the values where a field is absent, and an
 -- EtherType read at bytes 12 and 13 also where a VLAN tag stands, are this project's own.
-use Rattle.std.specs.Prelude.{ℕ, ◌-◌, ◌^◌, ◌<◌, ◌≤◌, List, [], ◌∷◌, length, take, drop, slice_index}
+use Rattle.std.specs.Prelude.{ℕ, ◌<◌, ◌≤◌, List, [], ◌∷◌, take, drop, slice_index}
 use Rattle.mt_packet.specs.Field.{eth_type_of, eth_dst_of, eth_src_of, arp_op_of}
 use Rattle.mt_packet.specs.Ipv4.{proto_of, src_of, dst_of, dscp_of, ecn_of, sport_of, dport_of, icmp_type_of, ip_ok_of, ports_of, mf_of, frag_off_of, ttl_of, syn_of, ack_of, fin_of, rst_of}
 use Rattle.mt_packet.specs.declared.field.Field.{Field}

@@ -1,6 +1,7 @@
 -- A packet on its way through a chain.
-use Rattle.std.specs.Prelude.{◌≡◌, ℕ, ◌+◌, ◌<◌, ◌≤◌, List, [], ◌∷◌, ◌++◌, length, take, drop, Bool, true, false, IsTrue, if◌then◌else◌}
-use Rattle.mt_packet.specs.Header.{fields_of, greatest_of}
+use Rattle.std.specs.Prelude.{ℕ, ◌≤◌, List, [], ◌∷◌, ◌++◌, length, take, drop, slice_set, Bool, true, false, IsTrue, if◌then◌else◌}
+use Rattle.mt_packet.specs.Field.{arp_op_of}
+use Rattle.mt_packet.specs.Header.{fields_of, greatest_of, number_of}
 use Rattle.mt_packet.specs.Ipv4.{total_length, dst_of, has_ports, IsValidIpv4}
 use Rattle.mt_packet.specs.Write.{put_two, put_six, with_header_zero, with_tcp_zero, ipv4_with_field}
 use Rattle.mt_packet.specs.declared.field.Field.{Field}
@@ -145,3 +146,10 @@ CanWrite packet Dport value = HasPorts packet × (value ≤ 65535)
 CanWrite packet Paint value = value ≤ greatest_of Paint
 CanWrite packet Annotation value = value ≤ greatest_of Annotation
 CanWrite packet _ value = ⊥
+
+-- the header of a packet after a write: the field has the value, and every other field has the value that
+-- it had. The operation of ARP goes by the EtherType, so it is read anew where that is written
+abbrev pub header_after : PacketState → Field → ℕ → List ℕ
+header_after packet EthType value =
+    slice_set (slice_set (packet_header packet) 1 value) 4 (arp_op_of (put_two packet.bytes 12 value))
+header_after packet field value = slice_set (packet_header packet) (number_of field) value

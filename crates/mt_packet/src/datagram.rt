@@ -16,6 +16,9 @@ pub const TCP: u8 = 6;
 /// The protocol number of UDP.
 pub const UDP: u8 = 17;
 
+/// What a port is told as where no port is visible.
+const NO_PORT: u64 = 65_536;
+
 /// The data behind an Ethernet header, read as IPv4, with the tests on which the fields depend.
 #[derive(Clone, Copy)]
 pub struct Datagram<'a> {
@@ -148,7 +151,7 @@ impl<'a> Datagram<'a> {
         if self.has_ports() {
             u64::from(two_bytes(self.datagram, header_bytes(self.datagram)))
         } else {
-            65_536
+            NO_PORT
         }
     }
 
@@ -160,7 +163,7 @@ impl<'a> Datagram<'a> {
         if self.has_ports() {
             u64::from(two_bytes(self.datagram, header_bytes(self.datagram) + 2))
         } else {
-            65_536
+            NO_PORT
         }
     }
 

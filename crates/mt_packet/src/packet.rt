@@ -1,9 +1,9 @@
 //! A packet on its way through a chain.
-ghost use Rattle.std.specs.Prelude.{◌≡◌, ◌+◌, ◌^◌, ◌<◌, ◌≤◌, ◌↔◌, ◌++◌, length, take, drop, true, IsTrue, if◌then◌else◌};
+ghost use Rattle.std.specs.Prelude.{◌≡◌, ◌+◌, ◌^◌, ◌<◌, ◌≤◌, ◌↔◌, ◌++◌, length, take, drop, slice_set, true, IsTrue, if◌then◌else◌};
 ghost use Rattle.mt_packet.specs.Flow.{packet_flow};
 ghost use Rattle.mt_packet.specs.Header.{field_of};
-ghost use Rattle.mt_packet.specs.Ipv4.{IsValidIpv4, header_length, has_ports};
-ghost use Rattle.mt_packet.specs.Packet.{PacketState, has_ethernet, frame_of, datagram_of, packet_header, arrived, stripped, encapsulated, ethernet_header, checked, checked_datagram, layer_checked, with_field, CanWrite, IsChecked, HasEthernet};
+ghost use Rattle.mt_packet.specs.Ipv4.{IsValidIpv4, header_length, dst_of, has_ports};
+ghost use Rattle.mt_packet.specs.Packet.{PacketState, has_ethernet, frame_of, datagram_of, packet_header, header_after, arrived, stripped, encapsulated, ethernet_header, checked, checked_datagram, layer_checked, with_field, CanWrite, IsChecked, HasEthernet};
 ghost use Rattle.std.specs.Bool.{OnTrue};
 ghost use Rattle.mt_packet.specs.Write.{HasHeader, with_address, with_dscp, with_ttl, with_port, with_header_zero, with_tcp_zero};
 
@@ -134,6 +134,7 @@ impl Packet {
         requires allowed { CanWrite self.old field value }
         requires room { writes.old < 2 ^ 63 }
         ensures written { self.new ≡ with_field self.old field value }
+        ensures header { packet_header self.new ≡ header_after self.old field value }
         ensures still_checked { IsChecked self.old → IsChecked self.new }
         ensures same_ports { has_ports (datagram_of self.new) ≡ has_ports (datagram_of self.old) }
         ensures counted { writes.new ≡ writes.old + 1 }
@@ -148,6 +149,9 @@ impl Packet {
     pub fn check_ip(&mut self) -> bool
         ensures valid { IsTrue result ↔ IsValidIpv4 (datagram_of self.old) }
         ensures after { self.new ≡ (if result then checked self.old else self.old) }
+        ensures header { packet_header self.new
+            ≡ (if result then slice_set (packet_header self.old) 23 (dst_of (datagram_of self.old))
+            else packet_header self.old) }
         ensures checked { OnTrue result (IsChecked self.new) }
         ensures same_ports { has_ports (datagram_of self.new) ≡ has_ports (datagram_of self.old) }
     {

@@ -1,4 +1,4 @@
-ghost use Rattle.std.specs.Prelude.{◌≤◌};
+ghost use Rattle.std.specs.Prelude.{◌≡◌, ◌≤◌};
 
 use crate::laws::{after_two_writes, with_error};
 use crate::{
@@ -68,7 +68,9 @@ fn frame(alloc: Global, text: &str) -> Option<Frame> {
     Some(Frame::new(bytes(alloc, text).ok()?))
 }
 
-fn arrived(frame: Frame, device: u32) -> Packet {
+fn arrived(frame: Frame, device: u32) -> Packet
+    ensures { result.layer ≡ Layer.Frame }
+{
     Packet::new(Stamped {
         stamp: 7,
         device,
@@ -86,16 +88,17 @@ fn agreeing(alloc: Global, device: u32, text: &str, want: &str) -> Option<usize>
     if header.get(Field::Device) != u64::from(device) {
         return None;
     }
-    let mut agreed = 1;
+    if want.split_whitespace().count() != HEADER_FIELDS - 1 {
+        return None;
+    }
     for (field, number) in FIELDS[1..].iter().zip(want.split_whitespace()) {
         let value = number.parse::<u64>().ok()?;
         let seen = !field.is_visible() || visible.get(*field) == value;
         if header.get(*field) != value || packet.field(*field) != value || !seen {
-            return Some(agreed);
+            return Some(field.number());
         }
-        agreed += 1;
     }
-    Some(agreed)
+    Some(HEADER_FIELDS)
 }
 
 #[test]
@@ -498,7 +501,8 @@ fn checked_packets(rt: HostRuntime) {
 
 #[test]
 fn frames_are_edited(rt: HostRuntime) {
-    let mut frame = frame(rt.alloc(), "00 01 02 03 04").expect(&rt, "memory");
+    let bytes = Vec::from_slice(rt.alloc(), &[0, 1, 2, 3, 4]).expect(&rt, "memory");
+    let mut frame = Frame::new(bytes);
     frame.insert(2, &[0xaa, 0xbb, 0xcc]).expect(&rt, "memory");
     assert_eq!(rt; frame.bytes(), [0, 1, 0xaa, 0xbb, 0xcc, 2, 3, 4].as_slice());
     frame.remove(1, 3);

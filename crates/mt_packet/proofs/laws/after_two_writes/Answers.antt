@@ -1,5 +1,4 @@
 -- proofs/laws/after_two_writes/Answers.antt
-use Rattle.std.proofs.Common.{◌∙◌}
 use Rattle.mt_packet.proofs.Sums.{written-twice}
 use Rattle.mt_packet.proofs.laws.after_two_writes.Goals as goal
 

@@ -1,7 +1,7 @@
 -- proofs/packet/Packet/check/Answers.antt
-use Rattle.std.proofs.Common.{◌≡◌, ◌∙◌, ◌≤◌, ap, sym, subst, refl, List, ℕ, length, drop, arith}
+use Rattle.std.proofs.Common.{◌≡◌, ◌∙◌, ◌≤◌, ap, subst, refl, List, ℕ, length, drop, arith}
 use Rattle.mt_packet.specs.Ipv4.{IsValidIpv4}
-use Rattle.mt_packet.specs.Packet.{checked, datagram_of}
+use Rattle.mt_packet.specs.Packet.{checked}
 use Rattle.mt_packet.proofs.Frames.{valid_behind}
 use Rattle.mt_packet.proofs.Views.{checked-seen, valid-seen}
 use Rattle.mt_packet.proofs.packet.Packet.check.Goals as goal
