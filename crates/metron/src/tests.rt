@@ -137,20 +137,13 @@ fn microseconds_are_written_as_nanoseconds(rt: HostRuntime) -> Result<(), Fail> 
 
 #[test]
 fn a_torn_capture_keeps_its_whole_records(rt: HostRuntime) -> Result<(), Fail> {
-    let three = joined(
+    let whole = joined(
         rt.alloc(),
-        &[
-            &HEADER,
-            &head(1, 46),
-            &UDP,
-            &head(2, 46),
-            &UDP,
-            &head(3, 46),
-            &UDP,
-        ],
+        &[&HEADER, &head(1, 46), &UDP, &head(2, 46), &UDP],
     )?;
-    assert!(rt; three.len() > 160);
-    let mut files = files(rt.alloc(), STRAIGHT, &three[..160])?;
+    assert_eq!(rt; whole.len(), 148);
+    let torn = joined(rt.alloc(), &[&whole, &head(3, 46)[..12]])?;
+    let mut files = files(rt.alloc(), STRAIGHT, &torn)?;
     let outcome = run(rt.alloc(), &mut files)?;
     check(
         &rt,
@@ -159,7 +152,7 @@ fn a_torn_capture_keeps_its_whole_records(rt: HostRuntime) -> Result<(), Fail> {
         Fault::Capture(1, PcapFault::Torn(148)),
         &[0, 1],
     );
-    assert_eq!(rt; files.written("out"), &three[..148]);
+    assert_eq!(rt; files.written("out"), whole.as_slice());
     Ok(())
 }
 

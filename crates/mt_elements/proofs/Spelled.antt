@@ -1,17 +1,16 @@
 -- What is written is read.
-use Rattle.std.proofs.Common.{◌≡◌, ℕ, zero, suc, ◌+◌, ◌<◌, ◌≤◌, Bool, true, false, cond, not, ◌&&◌, nat_eq, nat_lt, List, [], ◌∷◌, ◌++◌, length, take, drop, refl, sym, ◌∙◌, ap, subst, arith, length-append}
-use Rattle.std.specs.Prelude.{Option, Some, None, slice_index, option_map, option_and_then, if◌then◌else◌, codes}
-use Rattle.std.specs.List.{list_all, position_or_len, starts_with}
+use Rattle.std.proofs.Common.{◌≡◌, ℕ, suc, ◌+◌, Bool, true, false, cond, not, ◌&&◌, nat_eq, nat_lt, List, [], ◌∷◌, ◌++◌, length, take, drop, refl, sym, ◌∙◌, ap, subst, arith}
+use Rattle.std.specs.Prelude.{Option, Some, None, slice_index, option_map, option_and_then, if◌then◌else◌}
+use Rattle.std.specs.List.{list_all, position_or_len}
 use Rattle.std.proofs.lemmas.List.{take_at, drop_at, append-nil}
 use Rattle.std.specs.Str.{bytes_eq}
 use Rattle.std.proofs.lemmas.Bool.Decides.{nat_tests}
 use Rattle.std.proofs.lemmas.Slice.Eq.{bytes_eq-Decides}
 use Rattle.mt_elements.specs.declared.form.Item.{Item}
 use Rattle.mt_elements.specs.declared.form.Item.TheVariants.{Name, EtherType, Open, Close, OpenBracket, CloseBracket, Comma, Dash, Arrow, Colons, Semicolon, Zero, One}
-use Rattle.mt_elements.specs.Parts.{Parts}
 use Rattle.mt_elements.specs.Lexis.{is_space, is_name_start, is_name_byte, is_hex_digit, after_space, name_len_of}
-use Rattle.mt_elements.specs.Form.{spelling_of, name_at, ether_type_at, spelled_at, token_len_of, with_piece, pieces_of}
-use Rattle.mt_elements.specs.Shape.{straight, classified, straight_chain, classified_chain, is_reserved, is_one_name, are_classes, ether_type_of, straight_from, classified_from, straight_in, classified_in, first_of_two, chain_of}
+use Rattle.mt_elements.specs.Form.{name_at, ether_type_at, spelled_at, token_len_of, with_piece, pieces_of}
+use Rattle.mt_elements.specs.Shape.{straight, classified, classified_chain, is_reserved, is_one_name, are_classes, ether_type_of, straight_from, classified_from, straight_in, classified_in, first_of_two, chain_of}
 use Rattle.mt_elements.specs.Spelling.{IsSpace, IsName, IsEtherType, IsWritten, MayFollow, IsToken, Spells, StraightIsRead, ClassifiedIsRead}
 
 -- ---- tests on lists

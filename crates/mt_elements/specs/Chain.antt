@@ -1,5 +1,5 @@
 -- The wires of a chain.
-use Rattle.std.specs.Prelude.{ℕ, Option, None, slice_get, unwrap_or, option_and_then}
+use Rattle.std.specs.Prelude.{ℕ, Option, slice_get, option_and_then}
 use Rattle.mt_elements.specs.Parts.{Parts}
 
 -- where an output leads, where it is wired

@@ -1,5 +1,5 @@
 -- White space, names and hexadecimal digits of the configuration language.
-use Rattle.std.specs.Prelude.{ℕ, ◌+◌, ◌-◌, ◌*◌, Bool, ◌&&◌, ◌||◌, ◌==◌, nat_le, not, if◌then◌else◌, List, drop, slice_index}
+use Rattle.std.specs.Prelude.{ℕ, ◌-◌, Bool, ◌&&◌, ◌||◌, ◌==◌, nat_le, not, if◌then◌else◌, List, drop, slice_index}
 use Rattle.std.specs.List.{position_or_len}
 
 abbrev pub is_between : ℕ → ℕ → ℕ → Bool

@@ -1,5 +1,5 @@
 -- The two shapes of text, and the chains that they stand for.
-use Rattle.std.specs.Prelude.{ℕ, ◌+◌, ◌*◌, ◌==◌, Bool, ◌&&◌, ◌||◌, not, if◌then◌else◌, List, [], ◌∷◌, map, slice_index, Option, Some, None, option_and_then, codes}
+use Rattle.std.specs.Prelude.{ℕ, ◌+◌, ◌*◌, Bool, ◌&&◌, ◌||◌, not, if◌then◌else◌, List, [], ◌∷◌, map, slice_index, Option, Some, None, option_and_then, codes}
 use Rattle.std.specs.Str.{bytes_eq}
 use Rattle.mt_elements.specs.declared.form.Item.{Item}
 use Rattle.mt_elements.specs.declared.form.Item.TheVariants.{Name, EtherType, Open, Close, OpenBracket, CloseBracket, Comma, Dash, Arrow, Colons, Semicolon, Zero, One}

@@ -1,6 +1,6 @@
 -- Texts as they are written: the tokens of a form in their order, any white space before and behind each, and
 -- any names where the form leaves them open.
-use Rattle.std.specs.Prelude.{◌≡◌, ◌≢◌, ℕ, true, false, List, [], ◌∷◌, ◌++◌, length, slice_index, Option, Some, ⊤, codes}
+use Rattle.std.specs.Prelude.{◌≡◌, ℕ, true, false, List, [], ◌∷◌, ◌++◌, slice_index, Some, ⊤, codes}
 use Rattle.std.specs.List.{list_all}
 use Rattle.mt_elements.specs.declared.form.Item.{Item}
 use Rattle.mt_elements.specs.declared.form.Item.TheVariants.{Name, EtherType}
