@@ -68,7 +68,7 @@ is_sent_on device fate = false
 
 -- the records whose frames are sent on a device
 abbrev pub sent_on : ℕ → Parts → List (ℕ × List ℕ) → List (ℕ × List ℕ)
-sent_on device chain records = filter (λ record_. is_sent_on device (fate_of chain record_.1)) records
+sent_on device chain records = filter (λ arrival. is_sent_on device (fate_of chain arrival.1)) records
 
 -- what is written for a device: a capture of the records whose frames are sent on it, with the time of arrival
 abbrev pub device_text : ℕ → Parts → List (ℕ × List ℕ) → List ℕ

@@ -16,7 +16,7 @@ numbers n = range_with_len 0 n
 
 -- what is written for one record
 unfoldable pub text_of_one : ℕ → Parts → ℕ × List ℕ → List ℕ
-text_of_one device chain record_ = if is_sent_on device (fate_of chain record_.1) then record_text record_ else []
+text_of_one device chain arrival = if is_sent_on device (fate_of chain arrival.1) then record_text arrival else []
 
 -- Every record was served in its order, and the text of all of them was written.
 pub record HasServed (text_of : List (ℕ × List ℕ) → List ℕ) (records : List (ℕ × List ℕ)) (before after : Option (List ℕ)) (order : List ℕ) : Type 0 where

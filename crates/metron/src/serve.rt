@@ -64,13 +64,13 @@ fn serve_one<F: Files>(
     output: &str,
     device: u32,
     chain: &Chain,
-    record: &(u64, Frame),
+    arrival: &(u64, Frame),
     piece: &mut Vec<u8>,
 ) -> Result<(), Fault>
-    requires seconds_fit { record.now.0 / 1000000000 < 2 ^ 32 }
-    requires length { length record.now.1 ≤ 262144 }
-    ensures ok { OnOk result (Gains (F.written files.old output.now) (text_of_one device chain.now record.now) (F.written files.new output.now)) }
-    ensures err { OnErr result (GainsFront (F.written files.old output.now) (text_of_one device chain.now record.now) (F.written files.new output.now)) }
+    requires seconds_fit { arrival.now.0 / 1000000000 < 2 ^ 32 }
+    requires length { length arrival.now.1 ≤ 262144 }
+    ensures ok { OnOk result (Gains (F.written files.old output.now) (text_of_one device chain.now arrival.now) (F.written files.new output.now)) }
+    ensures err { OnErr result (GainsFront (F.written files.old output.now) (text_of_one device chain.now arrival.now) (F.written files.new output.now)) }
     ensures cause { IfErr result (ServeFault device (F.write_faults files.old output.now) (F.write_faults files.new output.now)) }
 
     ensures other_files { IsSameBut output.now (F.written files.old) (F.written files.new) }
@@ -78,10 +78,10 @@ fn serve_one<F: Files>(
     ensures read_faults { NeverFell (F.read_faults files.old) (F.read_faults files.new) }
     ensures write_faults { NeverFell (F.write_faults files.old) (F.write_faults files.new) }
 {
-    if !is_sent_on(device, fate_of(chain, &record.1)) {
+    if !is_sent_on(device, fate_of(chain, &arrival.1)) {
         return Ok(());
     }
-    if fill(piece, record).is_err() {
+    if fill(piece, arrival).is_err() {
         return Err(Fault::Memory);
     }
     match write_all(files, output, piece) {
@@ -100,14 +100,14 @@ fn is_sent_on(device: u32, fate: Option<Fate>) -> bool
 }
 
 /// Puts the text of a record into a piece.
-fn fill(piece: &mut Vec<u8>, record: &(u64, Frame)) -> Result<(), AllocError>
-    requires seconds_fit { record.now.0 / 1000000000 < 2 ^ 32 }
-    requires length { length record.now.1 ≤ 262144 }
-    ensures { OnOk result (piece.new.items ≡ record_text record.now) }
+fn fill(piece: &mut Vec<u8>, arrival: &(u64, Frame)) -> Result<(), AllocError>
+    requires seconds_fit { arrival.now.0 / 1000000000 < 2 ^ 32 }
+    requires length { length arrival.now.1 ≤ 262144 }
+    ensures { OnOk result (piece.new.items ≡ record_text arrival.now) }
 {
-    let bytes = record.1.bytes();
+    let bytes = arrival.1.bytes();
     piece.clear();
-    piece.extend_from_slice(&record_head(record.0, bytes.len() as u32))?;
+    piece.extend_from_slice(&record_head(arrival.0, bytes.len() as u32))?;
     piece.extend_from_slice(bytes)?;
     Ok(())
 }
