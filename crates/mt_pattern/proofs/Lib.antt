@@ -1,1 +1,4 @@
-pub mod Meanings
+mod Meanings
+mod Numbers
+pub mod Tokens
+pub mod Words

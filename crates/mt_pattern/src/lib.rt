@@ -2,8 +2,19 @@
 //! header meets it.
 #![tactic(auto)]
 
+mod address;
+mod build;
+mod fault;
+mod kind;
+mod lexis;
 mod meaning;
+mod number;
+mod parse;
+mod parser;
 mod pattern;
+mod stack;
+mod test;
 
+pub use fault::PatternFault;
 pub use meaning::holds;
 pub use pattern::Pattern;
