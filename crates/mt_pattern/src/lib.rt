@@ -14,6 +14,8 @@ mod parser;
 mod pattern;
 mod stack;
 mod test;
+#[cfg(test)]
+mod tests;
 
 pub use fault::PatternFault;
 pub use meaning::holds;
