@@ -1,4 +1,5 @@
 pub mod Cause
+pub mod Grammar
 pub mod Kind
 pub mod Lexis
 pub mod Meaning

@@ -6,6 +6,7 @@ mod address;
 mod build;
 mod fault;
 mod kind;
+pub mod laws;
 mod lexis;
 mod meaning;
 mod number;
