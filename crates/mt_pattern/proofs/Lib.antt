@@ -1,0 +1,5 @@
+mod Meanings
+mod Numbers
+mod Read
+pub mod Tokens
+pub mod Words

@@ -1,0 +1,18 @@
+use Rattle.std.proofs.Common.{refl, arith}
+use Rattle.mt_pattern.proofs.Numbers.{eight_digits, next_power, hexadecimal_more}
+use Rattle.mt_pattern.proofs.number.hexadecimal_value.Goals as goal
+
+pub overflow_mul-value : goal.overflow_mul-value
+overflow_mul-value c = omega (arith, eight_digits c.loop-byte.byte-index (omega arith))
+
+pub overflow_add-value : goal.overflow_add-value
+overflow_add-value c = omega (arith, eight_digits c.loop-byte.byte-index (omega arith))
+
+pub loop-byte-preserved : goal.loop-byte-preserved
+loop-byte-preserved c =
+    let i = c.loop-byte.byte-index in
+    let e = hexadecimal_more c.args.word.now i c.loop-byte-test.true in
+    record {
+      small = omega (arith, next_power i);
+      value = rw (e, ← c.loop-byte.invariant.value, c.digit.ensures.value) refl;
+    }

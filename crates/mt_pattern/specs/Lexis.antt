@@ -1,0 +1,57 @@
+-- How a text falls into tokens. White space separates them. A token is a sign, which is `(`, `)`, `!`,
+-- `||`, `&&`, `>=`, `<=`, `>` or `<`, or a word, which runs up to white space or to the next sign.
+use Rattle.std.specs.Prelude.{ℕ, zero, suc, ◌+◌, Bool, ◌&&◌, ◌||◌, ◌==◌, nat_lt, if◌then◌else◌, List, [], ◌∷◌, length, take, drop, slice_index}
+use Rattle.std.specs.List.{prefix_len}
+
+-- space, tab, line feed, carriage return
+abbrev pub is_space : ℕ → Bool
+is_space byte = byte == 32 || byte == 9 || byte == 10 || byte == 13
+
+-- the length of the sign that begins with these two bytes, 0 where none does
+abbrev pub sign_of : ℕ → ℕ → ℕ
+sign_of first second =
+    if first == 40 || first == 41 || first == 33 then 1
+    else if first == 62 || first == 60 then (if second == 61 then 2 else 1)
+    else if (first == 124 || first == 38) && second == first then 2
+    else 0
+
+abbrev pub sign_len : List ℕ → ℕ
+sign_len text = sign_of (slice_index text 0) (slice_index text 1)
+
+-- white space or a sign stands at the front
+unfoldable pub ends_word_at : List ℕ → Bool
+ends_word_at text = is_space (slice_index text 0) || nat_lt 0 (sign_len text)
+
+-- the length of the word at the front
+unfoldable pub word_len : List ℕ → ℕ
+word_len [] = 0
+word_len (byte ∷ rest) = if ends_word_at (byte ∷ rest) then 0 else 1 + word_len rest
+
+-- the length of the token at the front of a text that does not begin with white space
+unfoldable pub token_len : List ℕ → ℕ
+token_len text = if nat_lt 0 (sign_len text) then sign_len text else word_len text
+
+-- a token: its offset in the text and its bytes
+pub record Token : Type 0 where
+  pub at : ℕ
+  pub word : List ℕ
+
+-- the place of the first token from a place on, or the length of the text
+abbrev pub next_place : List ℕ → ℕ → ℕ
+next_place text place = place + prefix_len is_space (drop place text)
+
+-- the token at a place
+abbrev pub token_at : List ℕ → ℕ → Token
+token_at text place = record { at = place; word = take (token_len (drop place text)) (drop place text) }
+
+-- the tokens of a text from a place on, at most so many
+unfoldable pub tokens_from : ℕ → List ℕ → ℕ → List Token
+tokens_from zero text place = []
+tokens_from (suc most) text place =
+    let here = next_place text place in
+    if here == length text then []
+    else token_at text here ∷ tokens_from most text (here + token_len (drop here text))
+
+-- the tokens of a text
+unfoldable pub tokens_of : List ℕ → List Token
+tokens_of text = tokens_from (length text) text 0

@@ -1,0 +1,9 @@
+pub mod Cause
+pub mod Grammar
+pub mod Kind
+pub mod Lexis
+pub mod Meaning
+pub mod Number
+pub mod Parser
+pub mod Shape
+pub mod Test

@@ -1,0 +1,432 @@
+ghost use Rattle.std.specs.Prelude.{◌≤◌};
+
+use crate::{Pattern, PatternFault, holds};
+use mt_packet::{Field, Frame, Header};
+use std::alloc::{AllocError, Global};
+
+/// The name of a field that patterns look at.
+fn name(field: Field) -> &'static str {
+    match field {
+        Field::Proto => "proto",
+        Field::Src => "src",
+        Field::Dst => "dst",
+        Field::Dscp => "dscp",
+        Field::Sport => "sport",
+        Field::Dport => "dport",
+        Field::IcmpType => "icmp_type",
+        Field::Mf => "mf",
+        Field::FragOff => "frag_off",
+        Field::Ttl => "ttl",
+        Field::Syn => "syn",
+        Field::Ack => "ack",
+        Field::Fin => "fin",
+        Field::Rst => "rst",
+        _ => "another field",
+    }
+}
+
+/// A pattern as text, outermost part first.
+fn shown(alloc: Global, pattern: &Pattern) -> Result<String, AllocError> {
+    match pattern {
+        Pattern::True => String::from_str(alloc, "True"),
+        Pattern::Within(field, span) => {
+            let name = name(*field);
+            format!(in alloc; "Within({name}, {}, {})", span.lo, span.hi)
+        }
+        Pattern::Not(inner) => {
+            let inner = shown(alloc, inner.get())?;
+            format!(in alloc; "Not({inner})")
+        }
+        Pattern::And(left, right) => {
+            let left = shown(alloc, left.get())?;
+            let right = shown(alloc, right.get())?;
+            format!(in alloc; "And({left}, {right})")
+        }
+        Pattern::Or(left, right) => {
+            let left = shown(alloc, left.get())?;
+            let right = shown(alloc, right.get())?;
+            format!(in alloc; "Or({left}, {right})")
+        }
+    }
+}
+
+/// What a text is: its pattern, or the offset of its fault.
+fn read(alloc: Global, text: &str) -> Result<String, AllocError> {
+    match Pattern::parse(alloc, text.as_bytes()) {
+        Ok(pattern) => shown(alloc, &pattern),
+        Err(PatternFault::Bad(at)) => format!(in alloc; "bad {at}"),
+        Err(PatternFault::NoMemory) => Err(AllocError),
+    }
+}
+
+/// The number of the first row that is read otherwise than wanted, or how many rows there are.
+fn agreeing(alloc: Global, rows: &[(&str, &str)]) -> Option<usize> {
+    for (number, (text, wanted)) in rows.iter().enumerate() {
+        if read(alloc, text).ok()?.as_str() != *wanted {
+            return Some(number);
+        }
+    }
+    Some(rows.len())
+}
+
+#[test]
+fn texts_and_their_patterns(rt: HostRuntime) {
+    let rows = [
+        ("-", "True"),
+        ("true", "True"),
+        ("all", "True"),
+        ("src host 10.0.0.5", "Within(src, 167772165, 167772165)"),
+        ("dst host 192.0.2.7", "Within(dst, 3221225991, 3221225991)"),
+        (
+            "host 192.0.2.1",
+            "Or(Within(src, 3221225985, 3221225985), Within(dst, 3221225985, 3221225985))",
+        ),
+        ("src net 10.0.0.5/8", "Within(src, 167772160, 184549375)"),
+        ("dst net 10.0.0.6/31", "Within(dst, 167772166, 167772167)"),
+        (
+            "net 0.0.0.0/0",
+            "Or(Within(src, 0, 4294967295), Within(dst, 0, 4294967295))",
+        ),
+        ("src net 255.255.255.255/0", "Within(src, 0, 4294967295)"),
+        ("dst net 10.0.0.7", "Within(dst, 167772167, 167772167)"),
+        ("src port 22", "Within(sport, 22, 22)"),
+        ("dst port 1024-1025", "Within(dport, 1024, 1025)"),
+        (
+            "port 0-65535",
+            "Or(Within(sport, 0, 65535), Within(dport, 0, 65535))",
+        ),
+        (
+            "port > 65534",
+            "Or(Within(sport, 65535, 65535), Within(dport, 65535, 65535))",
+        ),
+        (
+            "tcp port > 53",
+            "And(Within(proto, 6, 6), Or(Within(sport, 54, 65535), Within(dport, 54, 65535)))",
+        ),
+        (
+            "src udp port 5001-5017",
+            "And(Within(proto, 17, 17), Within(sport, 5001, 5017))",
+        ),
+        (
+            "dst udp port 0x1389",
+            "And(Within(proto, 17, 17), Within(dport, 5001, 5001))",
+        ),
+        (
+            "dst tcp port <= 65535",
+            "And(Within(proto, 6, 6), Within(dport, 0, 65535))",
+        ),
+        (
+            "udp port >=22",
+            "And(Within(proto, 17, 17), Or(Within(sport, 22, 65535), Within(dport, 22, 65535)))",
+        ),
+        ("src tcp port > 65535", "Not(True)"),
+        ("port < 0", "Not(True)"),
+        ("dst port <22", "Within(dport, 0, 21)"),
+        (
+            "port 000000080",
+            "Or(Within(sport, 80, 80), Within(dport, 80, 80))",
+        ),
+        (
+            "port 0x0000FFff",
+            "Or(Within(sport, 65535, 65535), Within(dport, 65535, 65535))",
+        ),
+        ("tcp", "Within(proto, 6, 6)"),
+        ("udp", "Within(proto, 17, 17)"),
+        ("icmp", "Within(proto, 1, 1)"),
+        ("ip proto 47", "Within(proto, 47, 47)"),
+        ("ip dscp 63", "Within(dscp, 63, 63)"),
+        ("ip ttl 64", "Within(ttl, 64, 64)"),
+        ("ip ttl >= 0", "Within(ttl, 0, 255)"),
+        ("ip ttl > 254", "Within(ttl, 255, 255)"),
+        ("ip ttl > 255", "Not(True)"),
+        ("ip ttl <0", "Not(True)"),
+        ("ip frag", "Or(Within(mf, 1, 1), Within(frag_off, 1, 8191))"),
+        (
+            "ip unfrag",
+            "Not(Or(Within(mf, 1, 1), Within(frag_off, 1, 8191)))",
+        ),
+        ("tcp opt syn", "Within(syn, 1, 1)"),
+        ("tcp opt ack", "Within(ack, 1, 1)"),
+        ("tcp opt fin", "Within(fin, 1, 1)"),
+        ("tcp opt rst", "Within(rst, 1, 1)"),
+        ("icmp type 8", "Within(icmp_type, 8, 8)"),
+        (
+            "udp or tcp opt fin || ! true",
+            "Or(Or(Within(proto, 17, 17), Within(fin, 1, 1)), Not(True))",
+        ),
+        (
+            "tcp or udp and icmp",
+            "Or(Within(proto, 6, 6), And(Within(proto, 17, 17), Within(proto, 1, 1)))",
+        ),
+        (
+            "tcp && udp && icmp",
+            "And(And(Within(proto, 6, 6), Within(proto, 17, 17)), Within(proto, 1, 1))",
+        ),
+        (
+            "(tcp or udp)and(icmp)",
+            "And(Or(Within(proto, 6, 6), Within(proto, 17, 17)), Within(proto, 1, 1))",
+        ),
+        (
+            "!ip proto 17 and tcp opt fin",
+            "And(Not(Within(proto, 17, 17)), Within(fin, 1, 1))",
+        ),
+        ("not not ((-))", "Not(Not(True))"),
+        ("\t tcp\n||\r-  ", "Or(Within(proto, 6, 6), True)"),
+    ];
+    assert!(rt; agreeing(rt.alloc(), &rows) == Some(49));
+}
+
+#[test]
+fn faults_and_their_places(rt: HostRuntime) {
+    let rows = [
+        ("", "bad 0"),
+        (" ", "bad 1"),
+        ("host", "bad 4"),
+        ("port 80-", "bad 5"),
+        ("port 90-80", "bad 5"),
+        ("port 65536", "bad 5"),
+        ("port 80- 90", "bad 5"),
+        ("port 0x", "bad 5"),
+        ("port 0x123456789", "bad 5"),
+        ("port 1234567890", "bad 5"),
+        ("port > 65536", "bad 7"),
+        ("ip dscp 64", "bad 8"),
+        ("ip ttl 256", "bad 7"),
+        ("ip proto 256", "bad 9"),
+        ("icmp type 256", "bad 10"),
+        ("net 10.0.0.0/33", "bad 4"),
+        ("host 256.1.1.1", "bad 5"),
+        ("host 1.2.3", "bad 5"),
+        ("host 1.2.3.4.5", "bad 5"),
+        ("host 10.0.0.0/8", "bad 5"),
+        ("tcp udp", "bad 4"),
+        ("tcp and", "bad 7"),
+        ("- -", "bad 2"),
+        ("(tcp", "bad 4"),
+        ("tcp)", "bad 3"),
+        ("()", "bad 1"),
+        ("not", "bad 3"),
+        ("tcp opt", "bad 7"),
+        ("icmp typ", "bad 5"),
+        ("src - ", "bad 4"),
+        ("ip unrag", "bad 3"),
+        ("tcp |", "bad 4"),
+        ("tcp & udp", "bad 4"),
+        ("not not 10.0.0.1 icmp || -", "bad 8"),
+        ("dst udp port <= 53 || true or ip", "bad 32"),
+        ("not ((src port 22)", "bad 18"),
+        ("tcp && src port 2001-2017 and( icmp", "bad 35"),
+        ("dst host 10.0opt.0.5", "bad 9"),
+        ("dst udp port 80-8<=1 && src tcp port >5001", "bad 13"),
+    ];
+    assert!(rt; agreeing(rt.alloc(), &rows) == Some(39));
+}
+
+fn digit(letter: u8) -> u8
+    ensures { result ≤ 15 }
+{
+    match letter {
+        b'0'..=b'9' => letter - b'0',
+        b'a'..=b'f' => letter - b'a' + 10,
+        _ => 0,
+    }
+}
+
+/// The header of the frame with these bytes in hexadecimal.
+fn header(alloc: Global, text: &str) -> Result<Header, AllocError> {
+    let mut bytes = Vec::new(alloc);
+    let mut high: Option<u8> = None;
+    for letter in text.as_bytes() {
+        match high {
+            None => high = Some(digit(*letter)),
+            Some(sixteens) => {
+                bytes.push(sixteens % 16 * 16 + digit(*letter))?;
+                high = None;
+            }
+        }
+    }
+    Ok(Header::of(1, &Frame::new(bytes)))
+}
+
+/// Whether the text's pattern holds for the frame.
+fn met(alloc: Global, text: &str, frame: &str) -> Option<bool> {
+    let pattern = Pattern::parse(alloc, text.as_bytes()).ok()?;
+    Some(holds(&pattern, &header(alloc, frame).ok()?))
+}
+
+#[test]
+fn headers_that_meet_a_pattern(rt: HostRuntime) {
+    let rows = [
+        (
+            "tcp port > 53",
+            "ffffffffffff02000000000108060001080006040000",
+            false,
+        ),
+        (
+            "udp or tcp opt fin || ! true",
+            "020000000002020000000001080045000020ffff0000401146720a000006c633642113880016000cffff61626364",
+            true,
+        ),
+        (
+            "src udp port 5001-5017",
+            "00000000000002000000000108004500001f000200000001859b0a000105c63364090000000000000000706179",
+            false,
+        ),
+        (
+            "-",
+            "000000000000020000000001080600010800060400000000000000000000000000000000000000000000",
+            true,
+        ),
+        (
+            "dst net 198.51.100.33/32",
+            "00000000000002000000000108004500002000010001ff1186890a000105c633640904010050000c6e8061626364",
+            false,
+        ),
+        (
+            "dst net 198.51.100.33/32",
+            "ffffffffffff02000000000108004503001900020000401145760a000105c63364210050138800",
+            true,
+        ),
+        (
+            "ip frag and dst net 10.0.0.5/8 or icmp type 0",
+            "02000000000202000000000108004600002600021fff012f326acb007102c6336408000000000401005000000000000000000000",
+            false,
+        ),
+        (
+            "ip frag and dst net 10.0.0.5/8 or icmp type 0",
+            "02000000000202000000000908004500001f00010000400146830a000006c63364210000000000000000706179",
+            true,
+        ),
+        (
+            "! (tcp opt fin)",
+            "ffffffffffff02000000000108004503002000010000401145700a000105c633642104001388000cffff61626364",
+            true,
+        ),
+        (
+            "icmp type 0",
+            "02000000000202000000000108004500001f000200000101859b0a000005c63364090000000000000000706179",
+            true,
+        ),
+        (
+            "icmp type 0",
+            "ffffffffffff020000000001080045000026ffff0000010685900a000005c633640a0401005000000000000000005012200000000000",
+            false,
+        ),
+        ("dst udp port 0x1389", "30c6c73163c085af201a8d7e719e", false),
+        (
+            "! (ip ttl <=64)",
+            "000000000000020000000009080045040020468500004011ffff0a000007c633640a13880035000c227561626364",
+            false,
+        ),
+        (
+            "udp",
+            "000000000000020000000001080045280020000200000111cd47c6336421c000020707d00400000c000061626364",
+            true,
+        ),
+        ("udp", "", false),
+        (
+            "(ip dscp 63)",
+            "ffffffffffff02000000000108004500002800020000030683740a000006c63364210400003500000000000000005002200000010000",
+            false,
+        ),
+        (
+            "(ip dscp 63)",
+            "ffffffffffff020000000001080045ff0022436b4000022f00000a000007c63364090401005000000000000000000000",
+            true,
+        ),
+        (
+            "!(ip dscp 63)",
+            "000000000000020000000009080045ff002200010000002fbba8c0000203cb0071010035040300000000000000000000",
+            false,
+        ),
+        (
+            "!(ip dscp 63)",
+            "02000000000202000000000108004504001f00020000ff015598c633640acb0071010300000000000000706179",
+            true,
+        ),
+        (
+            "src port 1027",
+            "ffffffffffff0200000000010800450300206e72200140110000c6336421c000020200160403000cf31061626364",
+            false,
+        ),
+        ("tcp opt ack", "00000000000002000000000186dd", false),
+        (
+            "ip dscp 0",
+            "0200000000020200000000010800470000280001000003114f85cb007102c6336409000000000000000004000050000cf31061626364",
+            true,
+        ),
+        (
+            "ip dscp 0",
+            "ffffffffffff020000000009080045ff00200001000040118d76c6336421c000020200350401000c000061626364",
+            false,
+        ),
+        (
+            "src tcp port 0 or dst tcp port 80",
+            "0200000000020200000000010800450000200002200140116e8bc6336409c000020200500401000c9d7861626364",
+            false,
+        ),
+        (
+            "host 192.0.2.1",
+            "02000000000202000000000108004503001f00022000010165810a000004c63364210b00000000000000706179",
+            false,
+        ),
+        (
+            "(all or udp)",
+            "ffffffffffff020000000001080045000020ffff00000011858d0a000105c633640804010050000caf7561626364",
+            true,
+        ),
+        (
+            "net 198.51.100.10/16",
+            "000000000000020000000001080045000020148f000040110000cb007101c633640904010050000cffff61626364000000000000",
+            true,
+        ),
+        (
+            "host 192.0.2.1",
+            "02000000000202000000000108004500001f0001000040018e9fc6336409c00002010300000000000000706179",
+            true,
+        ),
+        (
+            "all",
+            "02000000000202000000000108004500001f000120010201ac9dc6336409c00002020b00000000000000706179",
+            true,
+        ),
+        (
+            "not ip dscp 0",
+            "ffffffffffff02000000000108004500002200012000ff2f356cc6336409cb0071020035041000000000000000000000",
+            false,
+        ),
+        (
+            "not ip dscp 0",
+            "020000000002020000000001080045ff001f000200000301829c0a000004c633640a0000000000000000706179",
+            true,
+        ),
+        (
+            "dst host 198.51.100.8 || ip ttl >= 64 && ip ttl 64",
+            "02000000000202000000000108004500001fffff20010101659b0a000006c63364090b00000000000000706179",
+            false,
+        ),
+        (
+            "dst host 198.51.100.8 || ip ttl >= 64 && ip ttl 64",
+            "00000000000002000000000108004500002200010000402f466a0a000005c633640a138a005000000000000000000000",
+            true,
+        ),
+        (
+            "src port 1024",
+            "02000000000202000000000108004728002800020000401144580a000007c6336409000000000000000004000035000c299861626364",
+            true,
+        ),
+        (
+            "!dst net 192.0.2.7/30",
+            "020000000002020000000009080047000028ffff2001031197c0c0000201cb007102000000000000000000160050000c000061626364",
+            true,
+        ),
+        (
+            "!dst net 192.0.2.7/30",
+            "020000000002020000000009080045280020000120014011d699c0000202c000020700160050000cf31061626364",
+            false,
+        ),
+    ];
+    for (text, frame, wanted) in &rows {
+        assert!(rt; met(rt.alloc(), text, frame) == Some(*wanted));
+    }
+}
