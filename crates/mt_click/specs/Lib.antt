@@ -1,0 +1,6 @@
+pub mod Byte
+pub mod Comment
+pub mod Closing
+pub mod Piece
+pub mod Tokens
+pub mod Arguments

@@ -1,0 +1,16 @@
+//! Configurations in the Click language.
+#![tactic(auto)]
+
+mod arguments;
+mod byte;
+mod comment;
+mod piece;
+mod text;
+mod token;
+mod tokens;
+
+pub use arguments::{arguments_of, closing_length, plain_length, shown_of, tidied};
+pub use comment::{Comment, comment_of};
+pub use text::Text;
+pub use token::{Kind, Token};
+pub use tokens::tokens_of;
