@@ -4,3 +4,4 @@ pub mod Closing
 pub mod Piece
 pub mod Tokens
 pub mod Arguments
+pub mod Reading

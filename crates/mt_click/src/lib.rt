@@ -4,13 +4,19 @@
 mod arguments;
 mod byte;
 mod comment;
+mod fault;
+mod part;
 mod piece;
+mod reading;
 mod text;
 mod token;
 mod tokens;
 
 pub use arguments::{arguments_of, closing_length, plain_length, shown_of, tidied};
 pub use comment::{Comment, comment_of};
+pub use fault::{ClickFault, ClickWhy, Fault, ReadError};
+pub use part::{End, Item, Part, Port, Use, Word};
+pub use reading::{Stage, Step};
 pub use text::Text;
 pub use token::{Kind, Token};
 pub use tokens::tokens_of;
