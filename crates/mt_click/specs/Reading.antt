@@ -1,6 +1,8 @@
 -- Reading the parts of a configuration from its tokens. Each reader answers what it read and the tokens
 -- behind it, or the fault of the first token that may not stand where it stands.
 use Rattle.std.specs.Prelude.{◌≡◌, ℕ, zero, suc, ◌+◌, ◌<◌, ◌≤◌, List, [], ◌∷◌, ◌++◌, length, Option, Some, None, is_some, IfSome, Result, Ok, Err, Bool, true, false, ◌&&◌, not, if◌then◌else◌}
+use Rattle.std.specs.Option.{option_map}
+use denote.Ref.{Bor}
 use Rattle.mt_click.specs.declared.token.Kind.{Kind}
 use Rattle.mt_click.specs.declared.token.Kind.TheVariants as kinds
 use Rattle.mt_click.specs.declared.token.Token.{Token}
@@ -15,9 +17,9 @@ use Rattle.mt_click.specs.declared.part.Item.{Item}
 use Rattle.mt_click.specs.declared.part.Item.TheVariants as items
 use Rattle.mt_click.specs.declared.part.Part.{Part}
 use Rattle.mt_click.specs.declared.part.Part.TheVariants as parts
-use Rattle.mt_click.specs.declared.reading.Stage.{Stage}
-use Rattle.mt_click.specs.declared.reading.Stage.TheVariants as stages
-use Rattle.mt_click.specs.declared.reading.Step.{Step}
+use Rattle.mt_click.specs.declared.moves.Stage.{Stage}
+use Rattle.mt_click.specs.declared.moves.Stage.TheVariants as stages
+use Rattle.mt_click.specs.declared.moves.Step.{Step}
 
 infixl 10 ◌>>=◌
 abbrev pub ◌>>=◌ : {A B : Type 0} → Result A Fault → (A → Result B Fault) → Result B Fault
@@ -128,6 +130,13 @@ IsShorter tokens (Some x) = length x.1 < length tokens
 abbrev pub Move : Type 0
 Move = Result (Option (Step × List Token)) Fault
 
+-- What a function returned is what reading gives.
+abbrev pub seen : Option (Step × Bor (List Token)) → Option (Step × List Token)
+seen o = option_map (λ x. (x.0, x.1.now)) o
+
+abbrev pub Moves : Result (Option (Step × Bor (List Token))) Fault → Move → Type 0
+Moves result read = Reads seen result read
+
 abbrev pub onward : Step → List Token → Move
 onward s tokens = Ok (Some (s, tokens))
 
@@ -207,14 +216,10 @@ read_after_end port inside (t ∷ ts) = elim t.kind [
     kinds.Arrow ↦ read_next t.from inside ts
     | _ ↦ if port then Err (fault_at t) else read_done inside (t ∷ ts) ]
 
--- a parameter, without its `$`
-abbrev pub parameter : Token → Word
-parameter t = record { from = t.from + 1; to = t.to }
-
 unfoldable pub read_parameter : List Token → Move
 read_parameter [] = Err (no_token [])
 read_parameter (t ∷ ts) = elim t.kind [
-    kinds.Parameter ↦ onward (told (parts.Parameter (parameter t)) stages.Parameters true) ts
+    kinds.Parameter ↦ onward (told (parts.Parameter (word t)) stages.Parameters true) ts
     | _ ↦ Err (fault_at t) ]
 
 unfoldable pub read_after_parameter : List Token → Move

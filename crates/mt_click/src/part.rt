@@ -54,7 +54,7 @@ pub enum Part {
     Made(Use),
     /// `elementclass` and a name: what follows up to `Close` is the class's.
     Class(Word),
-    /// A parameter of the class, without its `$`.
+    /// A parameter of the class, with its `$`.
     Parameter(Word),
     /// The end of the class.
     Close,

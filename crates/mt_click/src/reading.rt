@@ -1,39 +1,14 @@
-//! The parts of a configuration, read from its tokens.
+//! Names, uses, ports and ends, read from the front of a list of tokens. Each reader answers what it
+//! read and the tokens behind it, or the fault of the first token that may not stand there.
 ghost use Rattle.std.specs.Prelude.{◌≡◌, ◌<◌, ◌≤◌, length, IfOk, is_some};
 ghost use Rattle.std.specs.Option.{option_map};
 ghost use Rattle.mt_click.specs.Reading.{Reads, no_token, fault_at, word, read_name, read_arguments, read_use, read_number, read_right, read_inner, read_port, read_declared, read_behind, read_item, read_end, read_whole_end, read_left};
 
 use crate::fault::{ClickWhy, Fault};
-use crate::part::{End, Item, Part, Port, Use, Word};
+use crate::part::{End, Item, Port, Use, Word};
 use crate::token::{Kind, Token};
 
-/// What may stand next in a configuration.
-#[derive(Clone, Copy, Debug, PartialEq, Eq)]
-pub enum Stage {
-    /// A statement.
-    Begin,
-    /// The end of a statement.
-    Done,
-    /// A `->`, or the end of the statement where the last end has no output port.
-    Ended(bool),
-    /// Behind a name of a declaration: a further name, or the use.
-    Names,
-    /// Behind the `{` of a class: its parameters, or a statement.
-    Head,
-    /// Behind a parameter: a further one, or `|`.
-    Parameters,
-}
-
-/// What was read: a part or a sign between parts, and what may stand behind it. `inside` says
-/// whether it stands in the body of a class.
-#[derive(Clone, Copy, Debug, PartialEq, Eq)]
-pub struct Step {
-    pub part: Option<Part>,
-    pub stage: Stage,
-    pub inside: bool,
-}
-
-fn word_of(token: &Token) -> Word
+pub fn word_of(token: &Token) -> Word
     ensures { result ≡ word token.now }
 {
     Word {
@@ -43,7 +18,7 @@ fn word_of(token: &Token) -> Word
 }
 
 // The fault of a token that may not stand where it stands.
-fn fault_of(token: &Token) -> Fault
+pub fn fault_of(token: &Token) -> Fault
     ensures { result ≡ fault_at token.now }
 {
     let why = match token.kind {
@@ -57,7 +32,7 @@ fn fault_of(token: &Token) -> Fault
 }
 
 // The fault of the first token.
-fn first_fault(tokens: &[Token]) -> Fault
+pub fn first_fault(tokens: &[Token]) -> Fault
     ensures { result ≡ no_token tokens.now }
 {
     match tokens {
@@ -70,7 +45,7 @@ fn first_fault(tokens: &[Token]) -> Fault
 }
 
 #[tactic(auto, unfolding(crate::specs::Reading::read_name))]
-fn name_of(tokens: &[Token]) -> Result<(Word, &[Token]), Fault>
+pub fn name_of(tokens: &[Token]) -> Result<(Word, &[Token]), Fault>
     ensures reads { Reads (λ x. (x.0, x.1.now)) result (read_name tokens.now) }
     ensures shorter { IfOk result (λ x. length x.1.now < length tokens.now) }
 {
@@ -98,7 +73,7 @@ fn arguments_behind(tokens: &[Token]) -> (Option<Word>, &[Token])
 }
 
 #[tactic(auto, unfolding(crate::specs::Reading::read_use))]
-fn use_of(tokens: &[Token]) -> Result<(Use, &[Token]), Fault>
+pub fn use_of(tokens: &[Token]) -> Result<(Use, &[Token]), Fault>
     ensures reads { Reads (λ x. (x.0, x.1.now)) result (read_use tokens.now) }
     ensures shorter { IfOk result (λ x. length x.1.now < length tokens.now) }
 {
@@ -136,7 +111,7 @@ fn behind_right(tokens: &[Token]) -> Result<&[Token], Fault>
 }
 
 #[tactic(auto, unfolding(crate::specs::Reading::read_left))]
-fn behind_left(tokens: &[Token]) -> Result<&[Token], Fault>
+pub fn behind_left(tokens: &[Token]) -> Result<&[Token], Fault>
     ensures reads { Reads (λ x. x.now) result (read_left tokens.now) }
     ensures shorter { IfOk result (λ x. length x.now < length tokens.now) }
 {
@@ -210,7 +185,7 @@ fn item_of(tokens: &[Token]) -> Result<(Item, &[Token]), Fault>
 }
 
 #[tactic(auto, unfolding(crate::specs::Reading::read_end))]
-fn end_of(input: Option<Port>, tokens: &[Token]) -> Result<(End, &[Token]), Fault>
+pub fn end_of(input: Option<Port>, tokens: &[Token]) -> Result<(End, &[Token]), Fault>
     ensures reads { Reads (λ x. (x.0, x.1.now)) result (read_end input tokens.now) }
     ensures shorter { IfOk result (λ x. length x.1.now < length tokens.now) }
 {
@@ -220,7 +195,7 @@ fn end_of(input: Option<Port>, tokens: &[Token]) -> Result<(End, &[Token]), Faul
 }
 
 #[tactic(auto, unfolding(crate::specs::Reading::read_whole_end))]
-fn whole_end_of(tokens: &[Token]) -> Result<(End, &[Token]), Fault>
+pub fn whole_end_of(tokens: &[Token]) -> Result<(End, &[Token]), Fault>
     ensures reads { Reads (λ x. (x.0, x.1.now)) result (read_whole_end tokens.now) }
     ensures shorter { IfOk result (λ x. length x.1.now < length tokens.now) }
 {
