@@ -1,4 +1,5 @@
 pub mod Comments
 pub mod Numbers
-pub mod Parts
+pub mod Commas
 pub mod Scan
+pub mod Loop

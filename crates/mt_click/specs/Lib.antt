@@ -5,3 +5,4 @@ pub mod Piece
 pub mod Tokens
 pub mod Arguments
 pub mod Reading
+pub mod Place

@@ -1,7 +1,7 @@
 -- Reading the parts of a configuration from its tokens. Each reader answers what it read and the tokens
 -- behind it, or the fault of the first token that may not stand where it stands.
 use Rattle.std.specs.Prelude.{◌≡◌, ℕ, zero, suc, ◌+◌, ◌<◌, ◌≤◌, List, [], ◌∷◌, ◌++◌, length, Option, Some, None, is_some, IfSome, Result, Ok, Err, Bool, true, false, ◌&&◌, not, if◌then◌else◌}
-use Rattle.std.specs.Option.{option_map}
+use Rattle.std.specs.Option.{option_map, option_to_list}
 use denote.Ref.{Bor}
 use Rattle.mt_click.specs.declared.token.Kind.{Kind}
 use Rattle.mt_click.specs.declared.token.Kind.TheVariants as kinds
@@ -9,6 +9,8 @@ use Rattle.mt_click.specs.declared.token.Token.{Token}
 use Rattle.mt_click.specs.declared.fault.ClickWhy.TheVariants as whys
 use Rattle.mt_click.specs.declared.fault.ClickWhy.{ClickWhy}
 use Rattle.mt_click.specs.declared.fault.Fault.{Fault}
+use Rattle.mt_click.specs.declared.fault.ReadError.{ReadError}
+use Rattle.mt_click.specs.declared.fault.ReadError.TheVariants as errors
 use Rattle.mt_click.specs.declared.part.Word.{Word}
 use Rattle.mt_click.specs.declared.part.Use.{Use}
 use Rattle.mt_click.specs.declared.part.Port.{Port}
@@ -243,19 +245,24 @@ read_move stages.Names inside tokens = read_after_name inside tokens
 read_move stages.Head inside tokens = read_head tokens
 read_move stages.Parameters inside tokens = read_after_parameter tokens
 
--- The parts from a stage on, at most so many moves.
-abbrev pub with_part : Option Part → List Part → List Part
-with_part None ps = ps
-with_part (Some p) ps = p ∷ ps
-
+-- the parts from a stage on, in at most so many moves
 unfoldable pub parts_from : ℕ → Stage → Bool → List Token → Result (List Part) Fault
 parts_from zero stage inside tokens = Err (no_token [])
 parts_from (suc most) stage inside tokens = do
   move ← read_move stage inside tokens
   elim move as (λ _. Result (List Part) Fault) [
     None ↦ Ok []
-    | Some x ↦ parts_from most x.0.stage x.0.inside x.1 >>= λ ps. Ok (with_part x.0.part ps) ]
+    | Some x ↦ parts_from most x.0.stage x.0.inside x.1 >>= λ ps. Ok (option_to_list x.0.part ++ ps) ]
 
 -- The parts of a list of tokens, each move of which takes a token at least.
 abbrev pub parts_of_tokens : List Token → Result (List Part) Fault
 parts_of_tokens tokens = parts_from (length tokens) stages.Begin false tokens
+
+-- What a function returned, seen by view, is what reading gives, unless memory ran out.
+abbrev pub Fails : {Y : Type 0} → ReadError → Result Y Fault → Type 0
+Fails errors.Memory read = Unit {0}
+Fails (errors.Fault f) read = read ≡ Err f
+
+abbrev pub Gives : {X Y : Type 0} → (X → Y) → Result X ReadError → Result Y Fault → Type 0
+Gives view (Ok x) read = read ≡ Ok (view x)
+Gives view (Err e) read = Fails e read

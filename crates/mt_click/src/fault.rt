@@ -1,5 +1,6 @@
 //! Why a text is no configuration.
 ghost use Rattle.std.specs.Prelude.{◌≡◌};
+ghost use Rattle.mt_click.specs.declared.fault.ReadError.TheVariants.{Memory};
 
 use std::alloc::{AllocError, AllocFailed};
 use thiserror::Error;
@@ -59,4 +60,20 @@ pub enum ReadError {
     Memory,
     /// The text has a fault.
     Fault(Fault),
+}
+
+impl From<AllocError> for ReadError {
+    ghost from_gives = { λ _ e. e ≡ Memory };
+
+    fn from(_e: AllocError) -> ReadError {
+        ReadError::Memory
+    }
+}
+
+impl<T: Drop> From<AllocFailed<T>> for ReadError {
+    ghost from_gives = { λ _ e. e ≡ Memory };
+
+    fn from(_e: AllocFailed<T>) -> ReadError {
+        ReadError::Memory
+    }
 }

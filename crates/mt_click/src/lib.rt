@@ -7,7 +7,9 @@ mod comment;
 mod fault;
 mod moves;
 mod part;
+mod parts;
 mod piece;
+mod place;
 mod reading;
 mod text;
 mod token;
@@ -17,6 +19,8 @@ pub use arguments::{arguments_of, closing_length, plain_length, shown_of, tidied
 pub use comment::{Comment, comment_of};
 pub use fault::{ClickFault, ClickWhy, Fault, ReadError};
 pub use moves::{Stage, Step};
+pub use parts::parts_of;
+pub use place::place_of;
 pub use part::{End, Item, Part, Port, Use, Word};
 pub use text::Text;
 pub use token::{Kind, Token};

@@ -1,6 +1,6 @@
 use Rattle.std.proofs.Common.{◌≡◌, ◌≤◌, ℕ, ◌+◌, ◌-◌, ◌∷◌, ◌++◌, [], List, Bool, cond, length, map, take, drop, get_or, refl, sym, ap, ◌∙◌, arith}
 use Rattle.mt_click.specs.Arguments.{tidy, parts_of, separated}
-use Rattle.mt_click.proofs.Parts.{in_front_none, part_goes_on, part_ends, parts_done}
+use Rattle.mt_click.proofs.Commas.{in_front_none, part_goes_on, part_ends, parts_done}
 use Rattle.mt_click.proofs.Comments.{depth_within}
 use Rattle.mt_click.proofs.arguments.arguments_of.Goals as goal
 use Rattle.mt_click.proofs.arguments.arguments_of.Goals.{then-text-at-eq44+then-depth-eq0+in_ok-tidied+in_ok-push, else-text-at-eq44, else-text-at-eq44-via-then-text-at-eq44+else-depth-eq0, else-text-at-eq44-via-else-text-at-eq44}

@@ -1,6 +1,6 @@
 use Rattle.std.proofs.Common.{◌≡◌, ◌≤◌, ◌-◌, ◌++◌, map, take, drop}
 use Rattle.mt_click.specs.Arguments.{tidy, parts_of}
-use Rattle.mt_click.proofs.Parts.{in_front}
+use Rattle.mt_click.proofs.Commas.{in_front}
 use Rattle.mt_click.proofs.arguments.arguments_of.Given as goal
 
 abbrev pub invariant-loop-at : goal.invariant-loop-at

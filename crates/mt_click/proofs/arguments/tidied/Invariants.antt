@@ -1,6 +1,6 @@
 use Rattle.std.proofs.Common.{◌≡◌, ◌++◌, eqb, not, drop, length}
 use Rattle.mt_click.specs.Arguments.{tidy}
-use Rattle.mt_click.proofs.Parts.{tidy_rest}
+use Rattle.mt_click.proofs.Commas.{tidy_rest}
 use Rattle.mt_click.proofs.arguments.tidied.Given as goal
 
 abbrev pub invariant-loop-byte : goal.invariant-loop-byte
