@@ -22,6 +22,7 @@ use Rattle.mt_click.specs.declared.part.Part.TheVariants as parts
 use Rattle.mt_click.specs.declared.moves.Stage.{Stage}
 use Rattle.mt_click.specs.declared.moves.Stage.TheVariants as stages
 use Rattle.mt_click.specs.declared.moves.Step.{Step}
+use Rattle.mt_click.specs.Tokens.{tokens_in}
 
 infixl 10 ◌>>=◌
 abbrev pub ◌>>=◌ : {A B : Type 0} → Result A Fault → (A → Result B Fault) → Result B Fault
@@ -266,3 +267,7 @@ Fails (errors.Fault f) read = read ≡ Err f
 abbrev pub Gives : {X Y : Type 0} → (X → Y) → Result X ReadError → Result Y Fault → Type 0
 Gives view (Ok x) read = read ≡ Ok (view x)
 Gives view (Err e) read = Fails e read
+
+-- the parts of a text, or its first fault
+abbrev pub parts_in : List ℕ → Result (List Part) Fault
+parts_in text = parts_of_tokens (tokens_in text)
