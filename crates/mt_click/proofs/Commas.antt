@@ -97,8 +97,9 @@ pub in_front_none : (d : ℕ) (bs : List ℕ) → in_front [] (parts_of d bs) �
 unfolding parts_of
 in_front_none d [] = refl
 in_front_none d (b ∷ bs) = elim (eqb b 44 && eqb d 0) as (λ (t : Bool). in_front [] (cond t ([] ∷ parts_of d bs) (onto b (parts_of (depth_after d b) bs))) ≡ cond t ([] ∷ parts_of d bs) (onto b (parts_of (depth_after d b) bs))) [
-    true ↦ refl
-    | false ↦ plain (parts_of (depth_after d b) bs) b ]
+  | true ↦ refl
+  | false ↦ plain (parts_of (depth_after d b) bs) b
+]
 
 slice_more : (xs : List ℕ) (from at : ℕ) → from ≤ at → at < length xs → take (at - from) (drop from xs) ++ get_or xs at 0 ∷ [] ≡ take (at + 1 - from) (drop from xs)
 slice_more xs from at le lt =

@@ -94,7 +94,7 @@ pub closing_end : (d : ℕ) → closing d [] ≡ None
 unfolding closing
 closing_end d = refl
 
-moved : (at : ℕ) (o : Option ℕ) → option_map (λ n. n + at) (option_map (λ n. n + 1) o) ≡ option_map (λ n. n + (at + 1)) o
+pub moved : (at : ℕ) (o : Option ℕ) → option_map (λ n. n + at) (option_map (λ n. n + 1) o) ≡ option_map (λ n. n + (at + 1)) o
 moved at None = refl
 moved at (Some n) = ap (λ (k : ℕ). Some k) (omega arith)
 
@@ -146,5 +146,6 @@ block_end xs at low le so_far = sym (so_far ∙ ap (option_map (λ n. n + (at - 
 
 pub depth_within : (d b : ℕ) → depth_after d b ≤ d + 1
 depth_within d b = elim (eqb b 40) as (λ (t : Bool). cond t (d + 1) (cond (eqb b 41) (d - 1) d) ≤ d + 1) [
-    true ↦ omega arith
-    | false ↦ elim (eqb b 41) as (λ (t : Bool). cond t (d - 1) d ≤ d + 1) [ true ↦ omega arith | false ↦ omega arith ] ]
+  | true ↦ omega arith
+  | false ↦ elim (eqb b 41) as (λ (t : Bool). cond t (d - 1) d ≤ d + 1) [ true ↦ omega arith | false ↦ omega arith ]
+]

@@ -3,3 +3,4 @@ pub mod Numbers
 pub mod Commas
 pub mod Scan
 pub mod Loop
+pub mod Dollars

@@ -6,3 +6,4 @@ pub mod Tokens
 pub mod Arguments
 pub mod Reading
 pub mod Place
+pub mod Replacing

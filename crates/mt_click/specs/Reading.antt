@@ -94,9 +94,10 @@ read_declared name tokens = do
 unfoldable pub read_behind : Word → List Token → Result (Item × List Token) Fault
 read_behind name [] = Ok (items.Name name, [])
 read_behind name (t ∷ ts) = elim t.kind [
-    kinds.Colons ↦ read_declared name ts
-    | kinds.Arguments ↦ Ok (items.Made (record { class = name; arguments = Some (word t) }), ts)
-    | _ ↦ Ok (items.Name name, t ∷ ts) ]
+  | kinds.Colons ↦ read_declared name ts
+  | kinds.Arguments ↦ Ok (items.Made (record { class = name; arguments = Some (word t) }), ts)
+  | _ ↦ Ok (items.Name name, t ∷ ts)
+]
 
 unfoldable pub read_item : List Token → Result (Item × List Token) Fault
 read_item tokens = do
@@ -147,10 +148,11 @@ onward s tokens = Ok (Some (s, tokens))
 unfoldable pub read_done : Bool → List Token → Move
 read_done inside [] = Err (no_token [])
 read_done inside (t ∷ ts) = elim t.kind [
-    kinds.Semicolon ↦ onward (quiet stages.Begin inside) ts
-    | kinds.RightBrace ↦ if inside then onward (told parts.Close stages.Begin false) ts else Err (fault_at t)
-    | kinds.Finish ↦ if inside then Err (fault_at t) else Ok None
-    | _ ↦ Err (fault_at t) ]
+  | kinds.Semicolon ↦ onward (quiet stages.Begin inside) ts
+  | kinds.RightBrace ↦ if inside then onward (told parts.Close stages.Begin false) ts else Err (fault_at t)
+  | kinds.Finish ↦ if inside then Err (fault_at t) else Ok None
+  | _ ↦ Err (fault_at t)
+]
 
 abbrev pub has_port : End → Bool
 has_port e = is_some e.output
@@ -189,9 +191,10 @@ read_made inside tokens = do
 unfoldable pub read_after_name : Bool → List Token → Move
 read_after_name inside [] = Err (no_token [])
 read_after_name inside (t ∷ ts) = elim t.kind [
-    kinds.Comma ↦ read_name_more inside ts
-    | kinds.Colons ↦ read_made inside ts
-    | _ ↦ Err (fault_at t) ]
+  | kinds.Comma ↦ read_name_more inside ts
+  | kinds.Colons ↦ read_made inside ts
+  | _ ↦ Err (fault_at t)
+]
 
 -- class = "elementclass" NAME "{" [ PARAM { "," PARAM } "|" ] body "}"
 unfoldable pub read_left : List Token → Result (List Token) Fault
@@ -208,35 +211,40 @@ read_class tokens = do
 unfoldable pub read_begin : Bool → List Token → Move
 read_begin inside [] = Err (no_token [])
 read_begin inside (t ∷ ts) = elim t.kind [
-    kinds.Name ↦ read_names inside (t ∷ ts)
-    | kinds.Keyword ↦ if inside then Err (fault_at t) else read_class ts
-    | _ ↦ read_done inside (t ∷ ts) ]
+  | kinds.Name ↦ read_names inside (t ∷ ts)
+  | kinds.Keyword ↦ if inside then Err (fault_at t) else read_class ts
+  | _ ↦ read_done inside (t ∷ ts)
+]
 
 -- connect = end { "->" end }, of which the last has no output port
 unfoldable pub read_after_end : Bool → Bool → List Token → Move
 read_after_end port inside [] = Err (no_token [])
 read_after_end port inside (t ∷ ts) = elim t.kind [
-    kinds.Arrow ↦ read_next t.from inside ts
-    | _ ↦ if port then Err (fault_at t) else read_done inside (t ∷ ts) ]
+  | kinds.Arrow ↦ read_next t.from inside ts
+  | _ ↦ if port then Err (fault_at t) else read_done inside (t ∷ ts)
+]
 
 unfoldable pub read_parameter : List Token → Move
 read_parameter [] = Err (no_token [])
 read_parameter (t ∷ ts) = elim t.kind [
-    kinds.Parameter ↦ onward (told (parts.Parameter (word t)) stages.Parameters true) ts
-    | _ ↦ Err (fault_at t) ]
+  | kinds.Parameter ↦ onward (told (parts.Parameter (word t)) stages.Parameters true) ts
+  | _ ↦ Err (fault_at t)
+]
 
 unfoldable pub read_after_parameter : List Token → Move
 read_after_parameter [] = Err (no_token [])
 read_after_parameter (t ∷ ts) = elim t.kind [
-    kinds.Comma ↦ read_parameter ts
-    | kinds.Bar ↦ onward (quiet stages.Begin true) ts
-    | _ ↦ Err (fault_at t) ]
+  | kinds.Comma ↦ read_parameter ts
+  | kinds.Bar ↦ onward (quiet stages.Begin true) ts
+  | _ ↦ Err (fault_at t)
+]
 
 unfoldable pub read_head : List Token → Move
 read_head [] = Err (no_token [])
 read_head (t ∷ ts) = elim t.kind [
-    kinds.Parameter ↦ read_parameter (t ∷ ts)
-    | _ ↦ read_begin true (t ∷ ts) ]
+  | kinds.Parameter ↦ read_parameter (t ∷ ts)
+  | _ ↦ read_begin true (t ∷ ts)
+]
 
 unfoldable pub read_move : Stage → Bool → List Token → Move
 read_move stages.Begin inside tokens = read_begin inside tokens
@@ -252,8 +260,9 @@ parts_from zero stage inside tokens = Err (no_token [])
 parts_from (suc most) stage inside tokens = do
   move ← read_move stage inside tokens
   elim move as (λ _. Result (List Part) Fault) [
-    None ↦ Ok []
-    | Some x ↦ parts_from most x.0.stage x.0.inside x.1 >>= λ ps. Ok (option_to_list x.0.part ++ ps) ]
+    | None ↦ Ok []
+    | Some x ↦ parts_from most x.0.stage x.0.inside x.1 >>= λ ps. Ok (option_to_list x.0.part ++ ps)
+  ]
 
 -- The parts of a list of tokens, each move of which takes a token at least.
 abbrev pub parts_of_tokens : List Token → Result (List Part) Fault

@@ -21,9 +21,10 @@ tokens_from at named skip [] = token kinds.Finish at at ∷ []
 tokens_from at named (suc skip) (b ∷ bs) = tokens_from (at + 1) named skip bs
 tokens_from at named zero (b ∷ bs) =
     elim (piece_at named (b ∷ bs)) [
-    Blank n ↦ tokens_from (at + 1) named (n - 1) bs
-    | Taken kind n ↦ token kind at (at + n) ∷ tokens_from (at + 1) (is_name kind) (n - 1) bs
-    | Wrong ↦ token kinds.Broken at at ∷ [] ]
+      | Blank n ↦ tokens_from (at + 1) named (n - 1) bs
+      | Taken kind n ↦ token kind at (at + n) ∷ tokens_from (at + 1) (is_name kind) (n - 1) bs
+      | Wrong ↦ token kinds.Broken at at ∷ []
+    ]
 
 abbrev pub tokens_in : List ℕ → List Token
 tokens_in text = tokens_from 0 false 0 text

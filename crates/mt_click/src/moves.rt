@@ -5,7 +5,9 @@ ghost use Rattle.mt_click.specs.Reading.{Moves, IsShorter, seen, has_port, is_co
 
 use crate::fault::Fault;
 use crate::part::Part;
-use crate::reading::{behind_left, end_of, fault_of, first_fault, name_of, use_of, whole_end_of, word_of};
+use crate::reading::{
+    behind_left, end_of, fault_of, first_fault, name_of, use_of, whole_end_of, word_of,
+};
 use crate::token::{Kind, Token};
 
 /// What may stand next in a configuration.
@@ -34,7 +36,6 @@ pub struct Step {
     pub inside: bool,
 }
 
-
 #[tactic(auto, unfolding(crate::specs::Reading::read_done))]
 fn done(inside: bool, tokens: &[Token]) -> Result<Option<(Step, &[Token])>, Fault>
     ensures reads { Moves result (read_done inside tokens.now) }
@@ -42,12 +43,26 @@ fn done(inside: bool, tokens: &[Token]) -> Result<Option<(Step, &[Token])>, Faul
 {
     match tokens {
         [token, rest @ ..] => match token.kind {
-            Kind::Semicolon => Ok(Some((Step { part: None, stage: Stage::Begin, inside }, rest))),
+            Kind::Semicolon => Ok(Some((
+                Step {
+                    part: None,
+                    stage: Stage::Begin,
+                    inside,
+                },
+                rest,
+            ))),
             Kind::RightBrace => {
                 if !inside {
                     return Err(fault_of(token));
                 }
-                Ok(Some((Step { part: Some(Part::Close), stage: Stage::Begin, inside: false }, rest)))
+                Ok(Some((
+                    Step {
+                        part: Some(Part::Close),
+                        stage: Stage::Begin,
+                        inside: false,
+                    },
+                    rest,
+                )))
             }
             Kind::Finish => {
                 if inside {
@@ -68,7 +83,14 @@ fn first_end(inside: bool, tokens: &[Token]) -> Result<Option<(Step, &[Token])>,
 {
     let (end, rest) = end_of(None, tokens)?;
     let stage = Stage::Ended(end.output.is_some());
-    Ok(Some((Step { part: Some(Part::First(end)), stage, inside }, rest)))
+    Ok(Some((
+        Step {
+            part: Some(Part::First(end)),
+            stage,
+            inside,
+        },
+        rest,
+    )))
 }
 
 #[tactic(auto, unfolding(crate::specs::Reading::read_next))]
@@ -78,7 +100,14 @@ fn next_end(arrow: usize, inside: bool, tokens: &[Token]) -> Result<Option<(Step
 {
     let (end, rest) = whole_end_of(tokens)?;
     let stage = Stage::Ended(end.output.is_some());
-    Ok(Some((Step { part: Some(Part::Next(arrow, end)), stage, inside }, rest)))
+    Ok(Some((
+        Step {
+            part: Some(Part::Next(arrow, end)),
+            stage,
+            inside,
+        },
+        rest,
+    )))
 }
 
 // Whether a comma stands first.
@@ -101,7 +130,14 @@ fn names(inside: bool, tokens: &[Token]) -> Result<Option<(Step, &[Token])>, Fau
 {
     let (name, rest) = name_of(tokens)?;
     if is_at_comma(rest) {
-        Ok(Some((Step { part: Some(Part::Declared(name)), stage: Stage::Names, inside }, rest)))
+        Ok(Some((
+            Step {
+                part: Some(Part::Declared(name)),
+                stage: Stage::Names,
+                inside,
+            },
+            rest,
+        )))
     } else {
         first_end(inside, tokens)
     }
@@ -113,7 +149,14 @@ fn further_name(inside: bool, tokens: &[Token]) -> Result<Option<(Step, &[Token]
     ensures shorter { IfOk result (λ o. IsShorter tokens.now (seen o)) }
 {
     let (name, rest) = name_of(tokens)?;
-    Ok(Some((Step { part: Some(Part::Declared(name)), stage: Stage::Names, inside }, rest)))
+    Ok(Some((
+        Step {
+            part: Some(Part::Declared(name)),
+            stage: Stage::Names,
+            inside,
+        },
+        rest,
+    )))
 }
 
 #[tactic(auto, unfolding(crate::specs::Reading::read_made))]
@@ -122,7 +165,14 @@ fn made(inside: bool, tokens: &[Token]) -> Result<Option<(Step, &[Token])>, Faul
     ensures shorter { IfOk result (λ o. IsShorter tokens.now (seen o)) }
 {
     let (made, rest) = use_of(tokens)?;
-    Ok(Some((Step { part: Some(Part::Made(made)), stage: Stage::Done, inside }, rest)))
+    Ok(Some((
+        Step {
+            part: Some(Part::Made(made)),
+            stage: Stage::Done,
+            inside,
+        },
+        rest,
+    )))
 }
 
 #[tactic(auto, unfolding(crate::specs::Reading::read_after_name))]
@@ -147,7 +197,14 @@ fn class(tokens: &[Token]) -> Result<Option<(Step, &[Token])>, Fault>
 {
     let (name, rest) = name_of(tokens)?;
     let rest = behind_left(rest)?;
-    Ok(Some((Step { part: Some(Part::Class(name)), stage: Stage::Head, inside: true }, rest)))
+    Ok(Some((
+        Step {
+            part: Some(Part::Class(name)),
+            stage: Stage::Head,
+            inside: true,
+        },
+        rest,
+    )))
 }
 
 #[tactic(auto, unfolding(crate::specs::Reading::read_begin))]
@@ -198,7 +255,14 @@ fn parameter(tokens: &[Token]) -> Result<Option<(Step, &[Token])>, Fault>
         [token, rest @ ..] => match token.kind {
             Kind::Parameter => {
                 let name = word_of(token);
-                Ok(Some((Step { part: Some(Part::Parameter(name)), stage: Stage::Parameters, inside: true }, rest)))
+                Ok(Some((
+                    Step {
+                        part: Some(Part::Parameter(name)),
+                        stage: Stage::Parameters,
+                        inside: true,
+                    },
+                    rest,
+                )))
             }
             _ => Err(fault_of(token)),
         },
@@ -214,7 +278,14 @@ fn after_parameter(tokens: &[Token]) -> Result<Option<(Step, &[Token])>, Fault>
     match tokens {
         [token, rest @ ..] => match token.kind {
             Kind::Comma => parameter(rest),
-            Kind::Bar => Ok(Some((Step { part: None, stage: Stage::Begin, inside: true }, rest))),
+            Kind::Bar => Ok(Some((
+                Step {
+                    part: None,
+                    stage: Stage::Begin,
+                    inside: true,
+                },
+                rest,
+            ))),
             _ => Err(fault_of(token)),
         },
         [] => Err(first_fault(tokens)),
@@ -237,7 +308,11 @@ fn head(tokens: &[Token]) -> Result<Option<(Step, &[Token])>, Fault>
 
 /// What stands next.
 #[tactic(auto, unfolding(crate::specs::Reading::read_move))]
-pub fn move_of(stage: Stage, inside: bool, tokens: &[Token]) -> Result<Option<(Step, &[Token])>, Fault>
+pub fn move_of(
+    stage: Stage,
+    inside: bool,
+    tokens: &[Token],
+) -> Result<Option<(Step, &[Token])>, Fault>
     ensures reads { Moves result (read_move stage inside tokens.now) }
     ensures shorter { IfOk result (λ o. IsShorter tokens.now (seen o)) }
 {

@@ -167,7 +167,13 @@ fn item_behind(name: Word, tokens: &[Token]) -> Result<(Item, &[Token]), Fault>
             Kind::Colons => declared_of(name, rest),
             Kind::Arguments => {
                 let arguments = Some(word_of(token));
-                Ok((Item::Made(Use { class: name, arguments }), rest))
+                Ok((
+                    Item::Made(Use {
+                        class: name,
+                        arguments,
+                    }),
+                    rest,
+                ))
             }
             _ => Ok((Item::Name(name), tokens)),
         },
@@ -191,7 +197,14 @@ pub fn end_of(input: Option<Port>, tokens: &[Token]) -> Result<(End, &[Token]), 
 {
     let (item, rest) = item_of(tokens)?;
     let (output, rest) = port_of(rest)?;
-    Ok((End { input, item, output }, rest))
+    Ok((
+        End {
+            input,
+            item,
+            output,
+        },
+        rest,
+    ))
 }
 
 #[tactic(auto, unfolding(crate::specs::Reading::read_whole_end))]

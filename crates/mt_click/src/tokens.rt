@@ -34,12 +34,20 @@ pub fn tokens_of(alloc: Global, text: &[u8]) -> Result<Vec<Token>, AllocError>
                 skip = len.saturating_sub(1);
             }
             Piece::Wrong => {
-                tokens.push(Token { kind: Kind::Broken, from: at, to: at })?;
+                tokens.push(Token {
+                    kind: Kind::Broken,
+                    from: at,
+                    to: at,
+                })?;
                 return Ok(tokens);
             }
         }
     }
     let end = text.len();
-    tokens.push(Token { kind: Kind::Finish, from: end, to: end })?;
+    tokens.push(Token {
+        kind: Kind::Finish,
+        from: end,
+        to: end,
+    })?;
     Ok(tokens)
 }

@@ -21,20 +21,22 @@ loop-at-preserved c =
     let done = c.loop-at.arguments.items in
     let all = map tidy (parts_of 0 xs) in
     elim c.if-text-at-eq44.branch [
-    then-text-at-eq44+then-depth-eq0+in_ok-tidied+in_ok-push w ↦ record {
-      begun = omega (arith, w.from-is);
-      depth = omega (arith, w.depth-is, w.if-depth-eq0.true);
-      parts = rw (w.arguments-is, w.depth-is, w.from-is, w.in_ok-push.ensures.items, w.in_ok-tidied.ensures) (part_ends xs from at d done all c.loop-at.invariant.begun c.loop-at-test.true w.if-text-at-eq44.true w.if-depth-eq0.true c.loop-at.invariant.parts);
-    }
-    | else-text-at-eq44 w ↦
-    let other : get_or xs at 0 ≡ 44 → d ≡ 0 → ⊥ = elim w.else-text-at-eq44.branch [
-        else-text-at-eq44-via-then-text-at-eq44+else-depth-eq0 v ↦ λ _ n. v.if-depth-eq0.false n
-        | else-text-at-eq44-via-else-text-at-eq44 v ↦ λ n _. v.if-text-at-eq44.false n ] in
-    record {
-      begun = omega (arith, w.from-is);
-      depth = omega (arith, depth_within d (get_or xs at 0), w.depth-is, w.next_depth-depth.ensures);
-      parts = rw (w.arguments-is, w.depth-is, w.from-is, w.next_depth-depth.ensures) (part_goes_on xs from at d done all c.loop-at.invariant.begun c.loop-at-test.true other c.loop-at.invariant.parts);
-    } ]
+      | then-text-at-eq44+then-depth-eq0+in_ok-tidied+in_ok-push w ↦ record {
+        begun = omega (arith, w.from-is);
+        depth = omega (arith, w.depth-is, w.if-depth-eq0.true);
+        parts = rw (w.arguments-is, w.depth-is, w.from-is, w.in_ok-push.ensures.items, w.in_ok-tidied.ensures) (part_ends xs from at d done all c.loop-at.invariant.begun c.loop-at-test.true w.if-text-at-eq44.true w.if-depth-eq0.true c.loop-at.invariant.parts);
+      }
+      | else-text-at-eq44 w ↦
+          let other : get_or xs at 0 ≡ 44 → d ≡ 0 → ⊥ = elim w.else-text-at-eq44.branch [
+            | else-text-at-eq44-via-then-text-at-eq44+else-depth-eq0 v ↦ λ _ n. v.if-depth-eq0.false n
+            | else-text-at-eq44-via-else-text-at-eq44 v ↦ λ n _. v.if-text-at-eq44.false n
+          ] in
+          record {
+            begun = omega (arith, w.from-is);
+            depth = omega (arith, depth_within d (get_or xs at 0), w.depth-is, w.next_depth-depth.ensures);
+            parts = rw (w.arguments-is, w.depth-is, w.from-is, w.next_depth-depth.ensures) (part_goes_on xs from at d done all c.loop-at.invariant.begun c.loop-at-test.true other c.loop-at.invariant.parts);
+          }
+    ]
 
 pub returns : goal.returns
 unfolding separated

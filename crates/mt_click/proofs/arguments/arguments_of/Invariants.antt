@@ -7,5 +7,5 @@ abbrev pub invariant-loop-at : goal.invariant-loop-at
 invariant-loop-at l = record {
   begun : l.from ≤ l.at;
   depth : l.depth ≤ l.at;
-  parts : l.arguments.items ++ map tidy (in_front (take (l.at - l.from) (drop l.from l.text)) (parts_of l.depth (drop l.at l.text))) ≡ map tidy (parts_of 0 l.text)
+  parts : l.arguments.items ++ map tidy (in_front (take (l.at - l.from) (drop l.from l.text)) (parts_of l.depth (drop l.at l.text))) ≡ map tidy (parts_of 0 l.text);
 }

@@ -37,16 +37,18 @@ loop-at-preserved c =
     let d = c.loop-at.depth in
     let z : c.loop-at.skip ≡ 0 = omega arith in
     elim c.match-comment_of.branch [
-    in-Closed w ↦
-    let e = hidden_closed xs at c.loop-at.skip w.in-Closed.len c.loop-at-test.true z w.in-Closed.ensures.comment in
-    record { depth = omega arith; rest = rw (w.depth-is, w.skip-is, w.saturating_sub-skip.ensures) (c.loop-at.invariant.rest ∙ ap (λ (x : List (Option ℕ)). option_map (λ n. n + at) (closing d x)) e ∙ closing_none d at _) }
-    | in-Absent+else-body-at-eq41 w ↦
-    let b = get_or xs at 0 in
-    let e = hidden_absent xs at c.loop-at.skip c.loop-at-test.true z w.in-Absent.ensures.comment in
-    let other : b ≡ 41 → d ≡ 0 → ⊥ = elim w.else-body-at-eq41.branch [
-        else-body-at-eq41-via-then-body-at-eq41+else-depth-eq0 v ↦ λ _ n. v.if-depth-eq0.false n
-        | else-body-at-eq41-via-else-body-at-eq41 v ↦ λ n _. v.if-body-at-eq41.false n ] in
-    record { depth = omega (arith, depth_within d b, w.depth-is, w.next_depth-depth.ensures); rest = rw (w.depth-is, w.next_depth-depth.ensures, w.skip-is, z) (c.loop-at.invariant.rest ∙ ap (λ (x : List (Option ℕ)). option_map (λ n. n + at) (closing d x)) e ∙ closing_some d at b _ other) } ]
+      | in-Closed w ↦
+          let e = hidden_closed xs at c.loop-at.skip w.in-Closed.len c.loop-at-test.true z w.in-Closed.ensures.comment in
+          record { depth = omega arith; rest = rw (w.depth-is, w.skip-is, w.saturating_sub-skip.ensures) (c.loop-at.invariant.rest ∙ ap (λ (x : List (Option ℕ)). option_map (λ n. n + at) (closing d x)) e ∙ closing_none d at _) }
+      | in-Absent+else-body-at-eq41 w ↦
+          let b = get_or xs at 0 in
+          let e = hidden_absent xs at c.loop-at.skip c.loop-at-test.true z w.in-Absent.ensures.comment in
+          let other : b ≡ 41 → d ≡ 0 → ⊥ = elim w.else-body-at-eq41.branch [
+            | else-body-at-eq41-via-then-body-at-eq41+else-depth-eq0 v ↦ λ _ n. v.if-depth-eq0.false n
+            | else-body-at-eq41-via-else-body-at-eq41 v ↦ λ n _. v.if-body-at-eq41.false n
+          ] in
+          record { depth = omega (arith, depth_within d b, w.depth-is, w.next_depth-depth.ensures); rest = rw (w.depth-is, w.next_depth-depth.ensures, w.skip-is, z) (c.loop-at.invariant.rest ∙ ap (λ (x : List (Option ℕ)). option_map (λ n. n + at) (closing d x)) e ∙ closing_some d at b _ other) }
+    ]
 
 pub returns-clause-length : goal.returns-clause-length
 returns-clause-length c =

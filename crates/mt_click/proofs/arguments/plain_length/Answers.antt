@@ -29,12 +29,13 @@ loop-at-preserved c =
     let xs = c.args.body.now in
     let z : c.loop-at.skip ≡ 0 = omega arith in
     elim c.match-comment_of.branch [
-    in-Closed w ↦
-    let e = ap plain_len (hidden_closed xs c.loop-at.at c.loop-at.skip w.in-Closed.len c.loop-at-test.true z w.in-Closed.ensures.comment) in
-    rw (w.skip-is, w.saturating_sub-skip.ensures) (omega (arith, e, c.loop-at.invariant))
-    | in-Absent+else-body-at-gt126 w ↦
-    let e = ap plain_len (hidden_absent xs c.loop-at.at c.loop-at.skip c.loop-at-test.true z w.in-Absent.ensures.comment) in
-    rw (w.skip-is, z) (omega (arith, e, plain_some (get_or xs c.loop-at.at 0) (hidden 0 (drop (c.loop-at.at + 1) xs)) w.if-body-at-gt126.false, c.loop-at.invariant)) ]
+      | in-Closed w ↦
+          let e = ap plain_len (hidden_closed xs c.loop-at.at c.loop-at.skip w.in-Closed.len c.loop-at-test.true z w.in-Closed.ensures.comment) in
+          rw (w.skip-is, w.saturating_sub-skip.ensures) (omega (arith, e, c.loop-at.invariant))
+      | in-Absent+else-body-at-gt126 w ↦
+          let e = ap plain_len (hidden_absent xs c.loop-at.at c.loop-at.skip c.loop-at-test.true z w.in-Absent.ensures.comment) in
+          rw (w.skip-is, z) (omega (arith, e, plain_some (get_or xs c.loop-at.at 0) (hidden 0 (drop (c.loop-at.at + 1) xs)) w.if-body-at-gt126.false, c.loop-at.invariant))
+    ]
 
 pub returns-clause-length : goal.returns-clause-length
 returns-clause-length c =

@@ -26,14 +26,15 @@ loop-at-preserved c =
     let xs = c.args.body.now in
     let z : c.loop-at.skip ≡ 0 = omega arith in
     elim c.match-comment_of.branch [
-    in-Closed w ↦
-    let e = hidden_closed xs c.loop-at.at c.loop-at.skip w.in-Closed.len c.loop-at-test.true z w.in-Closed.ensures.comment in
-    rw (w.bytes-is, w.skip-is, w.saturating_sub-skip.ensures) (ap (λ (x : List (Option ℕ)). c.loop-at.bytes.items ++ flat_map option_to_list x) (sym e) ∙ c.loop-at.invariant)
-    | in-Absent+in_ok-push-in-Absent w ↦
-    let e = hidden_absent xs c.loop-at.at c.loop-at.skip c.loop-at-test.true z w.in-Absent.ensures.comment in
-    let x = get_or xs c.loop-at.at 0 in
-    let rest = drop (c.loop-at.at + 1) xs in
-    rw (w.bytes-is, w.skip-is, z, w.in_ok-push-in-Absent.ensures.items) (sym (ap (λ (y : List (Option ℕ)). c.loop-at.bytes.items ++ flat_map option_to_list y) e ∙ shown_step c.loop-at.bytes.items x (hidden 0 rest)) ∙ c.loop-at.invariant) ]
+      | in-Closed w ↦
+          let e = hidden_closed xs c.loop-at.at c.loop-at.skip w.in-Closed.len c.loop-at-test.true z w.in-Closed.ensures.comment in
+          rw (w.bytes-is, w.skip-is, w.saturating_sub-skip.ensures) (ap (λ (x : List (Option ℕ)). c.loop-at.bytes.items ++ flat_map option_to_list x) (sym e) ∙ c.loop-at.invariant)
+      | in-Absent+in_ok-push-in-Absent w ↦
+          let e = hidden_absent xs c.loop-at.at c.loop-at.skip c.loop-at-test.true z w.in-Absent.ensures.comment in
+          let x = get_or xs c.loop-at.at 0 in
+          let rest = drop (c.loop-at.at + 1) xs in
+          rw (w.bytes-is, w.skip-is, z, w.in_ok-push-in-Absent.ensures.items) (sym (ap (λ (y : List (Option ℕ)). c.loop-at.bytes.items ++ flat_map option_to_list y) e ∙ shown_step c.loop-at.bytes.items x (hidden 0 rest)) ∙ c.loop-at.invariant)
+    ]
 
 pub returns : goal.returns
 returns c =

@@ -7,5 +7,5 @@ invariant-loop-byte l = record {
   line : l.line ≡ 1 + count_by (λ b. eqb b 10) (take l.byte-index l.front);
   column : column_behind l.column (drop l.byte-index l.front) ≡ column_behind 1 l.front;
   line_small : l.line ≤ l.byte-index + 1;
-  column_small : l.column ≤ l.byte-index + 1
+  column_small : l.column ≤ l.byte-index + 1;
 }

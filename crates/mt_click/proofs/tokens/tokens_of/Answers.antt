@@ -21,16 +21,17 @@ loop-at-preserved c =
     let at = c.loop-at.at in
     let z : c.loop-at.skip ≡ 0 = omega arith in
     elim c.match-piece_of.branch [
-    in-Blank w ↦
-    let e = tokens_blank xs at c.loop-at.named c.loop-at.skip w.in-Blank.len c.loop-at-test.true z w.in-Blank.ensures.piece in
-    rw (w.tokens-is, w.named-is, w.skip-is, w.saturating_sub-skip.ensures) (ap (λ (x : List Token). c.loop-at.tokens.items ++ x) (sym e) ∙ c.loop-at.invariant)
-    | in-Taken+in_ok-push-in-Taken w ↦
-    let kind = w.in-Taken.kind in
-    let n = w.in-Taken.len in
-    let e = tokens_taken xs at c.loop-at.named c.loop-at.skip kind n c.loop-at-test.true z w.in-Taken.ensures.piece in
-    let rest = tokens_from (at + 1) (is_name kind) (n - 1) (drop (at + 1) xs) in
-    let regroup = append_assoc c.loop-at.tokens.items (token kind at (at + n) ∷ []) rest in
-    rw (w.tokens-is, w.named-is, w.skip-is, w.in_ok-push-in-Taken.ensures.items, w.is_name_kind-named.ensures, w.saturating_sub-skip-in-Taken.ensures) (regroup ∙ ap (λ (x : List Token). c.loop-at.tokens.items ++ x) (sym e) ∙ c.loop-at.invariant) ]
+      | in-Blank w ↦
+          let e = tokens_blank xs at c.loop-at.named c.loop-at.skip w.in-Blank.len c.loop-at-test.true z w.in-Blank.ensures.piece in
+          rw (w.tokens-is, w.named-is, w.skip-is, w.saturating_sub-skip.ensures) (ap (λ (x : List Token). c.loop-at.tokens.items ++ x) (sym e) ∙ c.loop-at.invariant)
+      | in-Taken+in_ok-push-in-Taken w ↦
+          let kind = w.in-Taken.kind in
+          let n = w.in-Taken.len in
+          let e = tokens_taken xs at c.loop-at.named c.loop-at.skip kind n c.loop-at-test.true z w.in-Taken.ensures.piece in
+          let rest = tokens_from (at + 1) (is_name kind) (n - 1) (drop (at + 1) xs) in
+          let regroup = append_assoc c.loop-at.tokens.items (token kind at (at + n) ∷ []) rest in
+          rw (w.tokens-is, w.named-is, w.skip-is, w.in_ok-push-in-Taken.ensures.items, w.is_name_kind-named.ensures, w.saturating_sub-skip-in-Taken.ensures) (regroup ∙ ap (λ (x : List Token). c.loop-at.tokens.items ++ x) (sym e) ∙ c.loop-at.invariant)
+    ]
 
 pub returns : goal.returns
 returns c =
