@@ -1,6 +1,6 @@
 -- A text whose comments are hidden, one place on.
-use Rattle.std.proofs.Common.{◌≡◌, ℕ, zero, suc, ◌+◌, ◌-◌, ◌<◌, ◌≤◌, List, [], ◌∷◌, ◌++◌, length, take, drop, get_or, Option, Some, None, cond, eqb, leb, ltb, Bool, true, false, ◌&&◌, refl, sym, ap, ◌∙◌, arith, length-drop, append_assoc}
-use Rattle.std.proofs.lemmas.List.{at_drop_more, at_drop_all, drop_all, take_all, append-nil, get_or-drop}
+use Rattle.std.proofs.Common.{◌≡◌, ℕ, zero, suc, ◌+◌, ◌-◌, ◌<◌, ◌≤◌, List, [], ◌∷◌, ◌++◌, length, take, drop, get_or, Option, Some, None, cond, eqb, leb, Bool, true, false, ◌&&◌, refl, sym, ap, ◌∙◌, arith, length-drop, append_assoc}
+use Rattle.std.proofs.lemmas.List.{at_drop_more, at_drop_all, take_all, get_or-drop}
 use Rattle.std.specs.Option.{option_map, option_to_list}
 use Rattle.std.specs.List.{prefix_len, flat_map}
 use Rattle.std.proofs.lemmas.List.Concat.{flat_map-cons}
@@ -8,7 +8,7 @@ use Rattle.mt_click.specs.declared.comment.Comment.{Comment}
 use Rattle.mt_click.specs.declared.comment.Comment.TheVariants.{Absent, Closed, Open}
 use Rattle.std.proofs.lemmas.Bool.{le-leb}
 use Rattle.std.proofs.lemmas.Bool.Decides.{nat_tests}
-use Rattle.mt_click.specs.Comment.{block_len, comment_at, hidden, bare}
+use Rattle.mt_click.specs.Comment.{block_len, comment_at, hidden}
 use Rattle.mt_click.specs.Closing.{closing, is_plain, depth_after}
 
 -- a slice up to the end is what is left of the list

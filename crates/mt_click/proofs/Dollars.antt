@@ -1,11 +1,10 @@
 -- Replacing parameters, one place on.
-use Rattle.std.proofs.Common.{◌≡◌, ℕ, zero, suc, ◌+◌, ◌-◌, ◌<◌, ◌≤◌, List, [], ◌∷◌, ◌++◌, length, take, drop, get_or, cond, Option, Some, None, Bool, true, false, ◌&&◌, not, refl, sym, ap, ◌∙◌, arith, length-drop, append_assoc}
-use Rattle.std.specs.Prelude.{is_some}
+use Rattle.std.proofs.Common.{◌≡◌, ℕ, zero, suc, ◌+◌, ◌-◌, ◌<◌, ◌≤◌, List, [], ◌∷◌, ◌++◌, length, take, drop, get_or, cond, Option, Some, None, Bool, true, false, refl, sym, ap, ◌∙◌, arith}
 use Rattle.std.specs.Option.{option_map}
 use Rattle.std.proofs.lemmas.List.{at_drop_more, at_drop_all, drop_more}
 use Rattle.mt_click.specs.declared.replacing.Binding.{Binding}
 use Rattle.mt_click.specs.Piece.{name_len}
-use Rattle.mt_click.specs.Replacing.{argument_at, is_parameter, is_unknown_at, replaced_from, replaced_in, unknown_in}
+use Rattle.mt_click.specs.Replacing.{argument_at, is_unknown_at, replaced_from, unknown_in}
 use Rattle.mt_click.proofs.Comments.{to_end, moved}
 
 step_skip : (bs : List Binding) (s b : ℕ) (xs : List ℕ) → 0 < s → replaced_from bs s (b ∷ xs) ≡ replaced_from bs (s - 1) xs

@@ -1,5 +1,5 @@
 -- Reading one part after the other, as a loop does.
-use Rattle.std.proofs.Common.{◌≡◌, ℕ, zero, suc, ◌+◌, ◌≤◌, ◌<◌, List, [], ◌∷◌, ◌++◌, length, Bool, true, false, Option, Some, None, Result, Ok, Err, refl, sym, ap, ◌∙◌, append_assoc, arith}
+use Rattle.std.proofs.Common.{◌≡◌, ℕ, zero, suc, ◌≤◌, ◌<◌, List, [], ◌∷◌, ◌++◌, length, Bool, Some, None, Result, Ok, Err, refl, sym, ap, ◌∙◌, append_assoc, arith}
 use Rattle.std.proofs.lemmas.List.{append-nil}
 use Rattle.std.specs.Option.{option_to_list}
 use Rattle.mt_click.specs.declared.token.Token.{Token}
@@ -8,7 +8,7 @@ use Rattle.mt_click.specs.declared.part.Part.{Part}
 use Rattle.mt_click.specs.declared.moves.Stage.{Stage}
 use Rattle.mt_click.specs.declared.moves.Stage.TheVariants as stages
 use Rattle.mt_click.specs.declared.moves.Step.{Step}
-use Rattle.mt_click.specs.Reading.{◌>>=◌, no_token, parts_from, parts_of_tokens, read_move, read_begin, read_done, read_after_end, read_after_name, read_head, read_after_parameter}
+use Rattle.mt_click.specs.Reading.{◌>>=◌, no_token, parts_from, read_move, read_begin, read_done, read_after_end, read_after_name, read_head, read_after_parameter}
 
 -- what was read before, and what is still read
 abbrev pub with_front : List Part → Result (List Part) Fault → Result (List Part) Fault

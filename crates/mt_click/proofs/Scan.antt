@@ -1,13 +1,12 @@
 -- The tokens of a text, one place on.
-use Rattle.std.proofs.Common.{◌≡◌, ℕ, zero, suc, ◌+◌, ◌-◌, ◌<◌, ◌≤◌, List, [], ◌∷◌, ◌++◌, length, take, drop, get_or, Bool, refl, sym, ap, ◌∙◌, arith}
+use Rattle.std.proofs.Common.{◌≡◌, ℕ, zero, suc, ◌+◌, ◌-◌, ◌<◌, ◌≤◌, List, [], ◌∷◌, length, take, drop, get_or, Bool, refl, sym, ap, ◌∙◌, arith}
 use Rattle.std.proofs.lemmas.List.{at_drop_more, at_drop_all}
 use Rattle.mt_click.specs.declared.token.Kind.{Kind}
 use Rattle.mt_click.specs.declared.token.Kind.TheVariants as kinds
-use Rattle.mt_click.specs.declared.token.Token.{Token}
 use Rattle.mt_click.specs.declared.piece.Piece.{Piece}
 use Rattle.mt_click.specs.declared.piece.Piece.TheVariants.{Blank, Taken, Wrong}
 use Rattle.mt_click.specs.Piece.{piece_at}
-use Rattle.mt_click.specs.Tokens.{is_name, token, tokens_from, tokens_in}
+use Rattle.mt_click.specs.Tokens.{is_name, token, tokens_from}
 use Rattle.mt_click.proofs.Comments.{to_end}
 
 step_skip : (at : ℕ) (named : Bool) (s b : ℕ) (bs : List ℕ) → 0 < s → tokens_from at named s (b ∷ bs) ≡ tokens_from (at + 1) named (s - 1) bs

@@ -1,8 +1,8 @@
 -- The arguments of an argument text.
-use Rattle.std.specs.Prelude.{ℕ, zero, suc, ◌+◌, ◌-◌, List, [], ◌∷◌, ◌++◌, length, map, take, drop, Option, Some, None, Bool, true, false, ◌&&◌, ◌||◌, not, ◌==◌, nat_le, if◌then◌else◌}
-use Rattle.std.specs.List.{flat_map, list_all, list_any, prefix_len}
+use Rattle.std.specs.Prelude.{ℕ, List, [], ◌∷◌, ◌++◌, length, map, Bool, true, false, ◌&&◌, not, ◌==◌, if◌then◌else◌}
+use Rattle.std.specs.List.{flat_map, list_all}
 use Rattle.std.specs.Option.{option_to_list}
-use Rattle.mt_click.specs.Byte.{is_white, is_letter, is_name_byte}
+use Rattle.mt_click.specs.Byte.{is_white}
 use Rattle.mt_click.specs.Comment.{bare}
 use Rattle.mt_click.specs.Closing.{depth_after}
 

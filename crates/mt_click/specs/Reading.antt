@@ -1,6 +1,6 @@
 -- Reading the parts of a configuration from its tokens. Each reader answers what it read and the tokens
 -- behind it, or the fault of the first token that may not stand where it stands.
-use Rattle.std.specs.Prelude.{◌≡◌, ℕ, zero, suc, ◌+◌, ◌<◌, ◌≤◌, List, [], ◌∷◌, ◌++◌, length, Option, Some, None, is_some, IfSome, Result, Ok, Err, Bool, true, false, ◌&&◌, not, if◌then◌else◌}
+use Rattle.std.specs.Prelude.{◌≡◌, ℕ, zero, suc, ◌<◌, List, [], ◌∷◌, ◌++◌, length, Option, Some, None, is_some, Result, Ok, Err, Bool, true, false, if◌then◌else◌}
 use Rattle.std.specs.Option.{option_map, option_to_list}
 use denote.Ref.{Bor}
 use Rattle.mt_click.specs.declared.token.Kind.{Kind}

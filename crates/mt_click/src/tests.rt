@@ -1,8 +1,8 @@
 //! Texts with the faults of reading that they have, and argument texts with their arguments.
 use crate::fault::ClickWhy;
 use crate::{
-    Binding, Kind, Text, arguments_of, first_unknown, parts_of, replaced, shown_of, statements, tidied,
-    tokens_of,
+    Binding, Kind, Text, arguments_of, first_unknown, parts_of, replaced, shown_of, statements,
+    tidied, tokens_of,
 };
 use std::alloc::{AllocError, Global};
 use std::test::Fail;

@@ -1,4 +1,4 @@
-use Rattle.std.proofs.Common.{◌≡◌, ◌≤◌, ℕ, ◌+◌, ◌-◌, ◌∷◌, ◌++◌, [], List, Bool, cond, length, map, take, drop, get_or, refl, sym, ap, ◌∙◌, arith}
+use Rattle.std.proofs.Common.{◌≡◌, [], Bool, cond, map, get_or, refl, ap, arith}
 use Rattle.mt_click.specs.Arguments.{tidy, parts_of, separated}
 use Rattle.mt_click.proofs.Commas.{in_front_none, part_goes_on, part_ends, parts_done}
 use Rattle.mt_click.proofs.Comments.{depth_within}

@@ -1,6 +1,5 @@
-use Rattle.std.proofs.Common.{◌≡◌, ◌≤◌, ℕ, ◌+◌, ◌-◌, ◌∷◌, List, Option, Some, None, length, drop, get_or, sym, ap, ◌∙◌, arith}
+use Rattle.std.proofs.Common.{◌≡◌, ℕ, ◌+◌, List, Option, Some, drop, get_or, sym, ap, ◌∙◌, arith}
 use Rattle.std.specs.Option.{option_map}
-use Rattle.mt_click.specs.Comment.{hidden}
 use Rattle.mt_click.specs.Closing.{closing}
 use Rattle.mt_click.proofs.Comments.{hidden_skip, hidden_absent, hidden_closed, hidden_open, hidden_end, closing_none, closing_some, closing_here, closing_nothings, closing_end, depth_within}
 use Rattle.mt_click.proofs.arguments.closing_length.Goals as goal

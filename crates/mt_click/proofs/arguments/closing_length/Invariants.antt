@@ -1,4 +1,4 @@
-use Rattle.std.proofs.Common.{◌≡◌, ◌≤◌, ◌+◌, ◌-◌, drop}
+use Rattle.std.proofs.Common.{◌≡◌, ◌≤◌, ◌+◌, drop}
 use Rattle.std.specs.Option.{option_map}
 use Rattle.mt_click.specs.Comment.{hidden}
 use Rattle.mt_click.specs.Closing.{closing}

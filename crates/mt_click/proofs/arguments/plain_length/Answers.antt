@@ -1,4 +1,4 @@
-use Rattle.std.proofs.Common.{◌≡◌, ◌≤◌, ℕ, ◌+◌, ◌-◌, ◌∷◌, List, Option, Some, None, length, drop, get_or, sym, ap, ◌∙◌, arith, length-drop}
+use Rattle.std.proofs.Common.{◌≡◌, ◌+◌, drop, get_or, ap, arith, length-drop}
 use Rattle.mt_click.specs.Comment.{hidden}
 use Rattle.mt_click.specs.Closing.{plain_len}
 use Rattle.mt_click.proofs.Comments.{hidden_skip, hidden_absent, hidden_closed, hidden_open, hidden_end, plain_nothings, plain_some, plain_stop}

@@ -1,11 +1,9 @@
-use Rattle.std.proofs.Common.{◌≡◌, ◌≤◌, ◌<◌, ℕ, ◌+◌, ◌-◌, List, [], ◌∷◌, ◌++◌, Option, Some, None, length, take, drop, get_or, arith, sym, ap, ◌∙◌, append_assoc}
+use Rattle.std.proofs.Common.{◌≡◌, ℕ, ◌+◌, List, ◌++◌, Option, drop, get_or, arith, sym, ap, ◌∙◌}
 use Rattle.std.specs.Option.{option_to_list}
 use Rattle.std.specs.List.{flat_map}
 use Rattle.std.proofs.lemmas.List.{append-nil}
-use Rattle.std.proofs.lemmas.List.Concat.{flat_map-cons}
 use Rattle.mt_click.specs.Comment.{hidden}
-use Rattle.mt_click.specs.Arguments.{shown}
-use Rattle.mt_click.proofs.Comments.{hidden_skip, hidden_absent, hidden_closed, hidden_open, hidden_end, shown_nothings, shown_step, nothings}
+use Rattle.mt_click.proofs.Comments.{hidden_skip, hidden_absent, hidden_closed, hidden_open, hidden_end, shown_nothings, shown_step}
 use Rattle.mt_click.proofs.arguments.shown_of.Goals as goal
 use Rattle.mt_click.proofs.arguments.shown_of.Goals.{in-Closed, in-Absent+in_ok-push-in-Absent}
 

@@ -1,4 +1,3 @@
-use Rattle.std.proofs.Common.{◌≡◌, sym, ap, ◌∙◌}
 use Rattle.mt_click.specs.Reading.{parts_of_tokens}
 use Rattle.mt_click.proofs.Loop.{goes_on, is_done, has_failed}
 use Rattle.mt_click.proofs.parts.parts_of.Goals as goal

@@ -1,5 +1,5 @@
-use Rattle.std.proofs.Common.{◌≡◌, ◌≤◌, ℕ, length}
-use Rattle.mt_click.specs.Reading.{parts_from, parts_of_tokens}
+use Rattle.std.proofs.Common.{length}
+use Rattle.mt_click.specs.Reading.{parts_of_tokens}
 use Rattle.mt_click.proofs.Loop.{IsSoFar}
 use Rattle.mt_click.proofs.parts.parts_of.Given as goal
 

@@ -1,6 +1,5 @@
-use Rattle.std.proofs.Common.{ℕ, ◌≤◌, length, arith, rules, length-take}
+use Rattle.std.proofs.Common.{arith, length-take}
 use Rattle.mt_click.proofs.Numbers.{front_digits}
-use Rattle.mt_click.specs.Piece.{digits_at}
 use Rattle.mt_click.proofs.piece.digits_of.Goals as goal
 
 pub number_value-requires-clause-digits : goal.number_value-requires-clause-digits

@@ -1,4 +1,4 @@
-use Rattle.std.proofs.Common.{◌≤◌, ◌<◌, ◌^◌, ◌+◌, suc, refl, arith, rules}
+use Rattle.std.proofs.Common.{refl, arith}
 use Rattle.mt_click.proofs.Numbers.{nine_digits, next_power, number_more}
 use Rattle.mt_click.proofs.piece.number_value.Goals as goal
 

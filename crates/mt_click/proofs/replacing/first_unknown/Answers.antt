@@ -1,4 +1,4 @@
-use Rattle.std.proofs.Common.{◌≡◌, sym, ap, ◌∙◌}
+use Rattle.std.proofs.Common.{◌∙◌}
 use Rattle.mt_click.proofs.Dollars.{unknown_on, unknown_here, unknown_end, tested}
 use Rattle.mt_click.proofs.replacing.first_unknown.Goals as goal
 

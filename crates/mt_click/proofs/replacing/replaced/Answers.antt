@@ -1,4 +1,4 @@
-use Rattle.std.proofs.Common.{◌≡◌, ℕ, ◌+◌, ◌++◌, List, [], ◌∷◌, length, drop, get_or, sym, ap, ◌∙◌, arith, append_assoc}
+use Rattle.std.proofs.Common.{◌≡◌, ℕ, ◌+◌, ◌++◌, List, [], ◌∷◌, drop, get_or, sym, ap, ◌∙◌, arith, append_assoc}
 use Rattle.std.proofs.lemmas.List.{append-nil}
 use Rattle.mt_click.specs.Piece.{name_len}
 use Rattle.mt_click.specs.Replacing.{replaced_from}
@@ -21,15 +21,16 @@ loop-at-preserved c =
     let rest = drop (at + 1) xs in
     let z : c.loop-at.skip ≡ 0 = omega arith in
     elim c.match-argument_behind.branch [
-    in-Some+in_ok-extend_from_slice-in-Some w ↦
-    let argument = w.in-Some.argument.now in
-    let e = replaced_some bs xs at c.loop-at.skip argument c.loop-at-test.true z w.in-Some.ensures in
-    let n = ap name_len (to_end xs (at + 1)) in
-    rw (w.bytes-is, w.skip-is, w.in_ok-extend_from_slice-in-Some.ensures.items, w.name_length-skip.ensures.length, n) (append_assoc out argument (replaced_from bs (name_len rest) rest) ∙ ap (λ (x : List ℕ). out ++ x) (sym e) ∙ c.loop-at.invariant)
-    | in-None+in_ok-push-in-None w ↦
-    let b = get_or xs at 0 in
-    let e = replaced_none bs xs at c.loop-at.skip c.loop-at-test.true z w.in-None.ensures in
-    rw (w.bytes-is, w.skip-is, z, w.in_ok-push-in-None.ensures.items) (append_assoc out (b ∷ []) (replaced_from bs 0 rest) ∙ ap (λ (x : List ℕ). out ++ x) (sym e) ∙ c.loop-at.invariant) ]
+      | in-Some+in_ok-extend_from_slice-in-Some w ↦
+          let argument = w.in-Some.argument.now in
+          let e = replaced_some bs xs at c.loop-at.skip argument c.loop-at-test.true z w.in-Some.ensures in
+          let n = ap name_len (to_end xs (at + 1)) in
+          rw (w.bytes-is, w.skip-is, w.in_ok-extend_from_slice-in-Some.ensures.items, w.name_length-skip.ensures.length, n) (append_assoc out argument (replaced_from bs (name_len rest) rest) ∙ ap (λ (x : List ℕ). out ++ x) (sym e) ∙ c.loop-at.invariant)
+      | in-None+in_ok-push-in-None w ↦
+          let b = get_or xs at 0 in
+          let e = replaced_none bs xs at c.loop-at.skip c.loop-at-test.true z w.in-None.ensures in
+          rw (w.bytes-is, w.skip-is, z, w.in_ok-push-in-None.ensures.items) (append_assoc out (b ∷ []) (replaced_from bs 0 rest) ∙ ap (λ (x : List ℕ). out ++ x) (sym e) ∙ c.loop-at.invariant)
+    ]
 
 pub returns : goal.returns
 returns c =

@@ -1,4 +1,4 @@
-use Rattle.std.proofs.Common.{◌≡◌, ◌≤◌, ℕ, ◌+◌, ◌-◌, ◌∷◌, ◌++◌, [], List, length, drop, sym, ap, ◌∙◌, arith, append_assoc}
+use Rattle.std.proofs.Common.{◌≡◌, ◌+◌, ◌-◌, ◌∷◌, ◌++◌, [], List, length, drop, sym, ap, ◌∙◌, arith, append_assoc}
 use Rattle.mt_click.specs.declared.token.Token.{Token}
 use Rattle.mt_click.specs.Tokens.{tokens_from, is_name, token}
 use Rattle.mt_click.proofs.Scan.{tokens_skip, tokens_blank, tokens_taken, tokens_wrong, tokens_end}
