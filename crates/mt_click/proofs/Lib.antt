@@ -4,3 +4,5 @@ pub mod Commas
 pub mod Scan
 pub mod Loop
 pub mod Dollars
+pub mod Spelling
+pub mod Gaps

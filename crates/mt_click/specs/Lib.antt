@@ -7,3 +7,4 @@ pub mod Arguments
 pub mod Reading
 pub mod Place
 pub mod Replacing
+pub mod Spelled

@@ -1,6 +1,7 @@
 //! The tokens of a text.
 ghost use Rattle.std.specs.Prelude.{◌≡◌, IfOk};
 ghost use Rattle.mt_click.specs.Tokens.{is_name, tokens_in};
+ghost use Rattle.mt_click.specs.Spelled.{AreTokens};
 
 use crate::piece::{Piece, piece_of};
 use crate::token::{Kind, Token};
@@ -12,9 +13,7 @@ fn is_name_kind(kind: Kind) -> bool
     matches!(kind, Kind::Name)
 }
 
-/// The tokens of a text, in order. The last is `Finish` at the end of the text, or `Broken` at the
-/// first place at which the text has no token.
-pub fn tokens_of(alloc: Global, text: &[u8]) -> Result<Vec<Token>, AllocError>
+fn scan(alloc: Global, text: &[u8]) -> Result<Vec<Token>, AllocError>
     ensures { IfOk result (λ v. v.items ≡ tokens_in text.now) }
 {
     let mut tokens = Vec::new(alloc);
@@ -50,4 +49,15 @@ pub fn tokens_of(alloc: Global, text: &[u8]) -> Result<Vec<Token>, AllocError>
         to: end,
     })?;
     Ok(tokens)
+}
+
+/// The tokens of a text, in order. The last is `Finish` at the end of the text, or `Broken` at the
+/// first place at which the text has no token.
+pub fn tokens_of(alloc: Global, text: &[u8]) -> Result<Vec<Token>, AllocError>
+    // Which tokens they are: each is the longest that its place has.
+    ensures tokens { IfOk result (λ v. v.items ≡ tokens_in text.now) }
+    // The text is these tokens, each behind white space and comments.
+    ensures spelled { IfOk result (λ v. AreTokens 0 text.now v.items) }
+{
+    scan(alloc, text)
 }
