@@ -1,8 +1,7 @@
 -- The tokens of a text are spelled in it, with white space and comments before each.
-use Rattle.std.proofs.Common.{◌≡◌, ◌⊎◌, ℕ, zero, suc, ◌+◌, ◌-◌, ◌<◌, ◌≤◌, List, [], ◌∷◌, ◌++◌, length, take, drop, get_or, cond, eqb, ltb, Bool, true, false, ◌&&◌, ◌||◌, not, Option, Some, None, refl, sym, ap, subst, ◌∙◌, inl, inr, arith, append_assoc, length-append, length-drop, length-take, min}
-use Rattle.std.specs.Prelude.{IsTrue, codes, Result, Ok, Err, IfOk}
+use Rattle.std.proofs.Common.{◌≡◌, ℕ, zero, suc, ◌+◌, ◌-◌, ◌<◌, ◌≤◌, List, [], ◌∷◌, ◌++◌, length, take, drop, get_or, cond, eqb, ltb, Bool, true, false, ◌&&◌, ◌||◌, not, Option, Some, None, refl, sym, ap, subst, ◌∙◌, inl, inr, arith, append_assoc, length-append, length-drop, length-take}
+use Rattle.std.specs.Prelude.{codes, Result, Ok, Err, IfOk}
 use Rattle.std.specs.Global.{Vec}
-use Rattle.std.specs.List.{AllByRecursion, prefix_len}
 use Rattle.std.specs.Option.{option_map}
 use Rattle.std.specs.Str.{bytes_eq}
 use Rattle.std.proofs.lemmas.Bool.Decides.{nat_tests}
@@ -18,9 +17,9 @@ use Rattle.mt_click.specs.declared.piece.Piece.TheVariants.{Blank, Taken, Wrong}
 use Rattle.mt_click.specs.Byte.{is_white, is_letter, is_digit, is_name_byte}
 use Rattle.mt_click.specs.Comment.{line_len, block_len, closed, comment_at, hidden, bare}
 use Rattle.mt_click.specs.Closing.{closing, depth_after, plain_len}
-use Rattle.mt_click.specs.Piece.{name_len, digits_len, number_of, word_at, digits_at, parameter_at, arguments_to, arguments_at, pair_at, mark_of, mark_at, plain_at, piece_at, PieceWithin}
+use Rattle.mt_click.specs.Piece.{name_len, word_at, digits_at, parameter_at, arguments_to, arguments_at, pair_at, mark_of, mark_at, plain_at, piece_at, PieceWithin}
 use Rattle.mt_click.specs.Tokens.{is_name, token, tokens_from, tokens_in}
-use Rattle.mt_click.specs.Spelled.{IsLineComment, IsBlockComment, IsWhite, IsBlank, IsGap, IsIdentifier, IsSpelled, IsTold, AreTokens}
+use Rattle.mt_click.specs.Spelled.{IsBlank, IsSpelled, IsTold, AreTokens}
 use Rattle.mt_click.specs.Spelled.IsGap.{nothing, blank}
 use Rattle.mt_click.proofs.Spelling.{IsPiece, piece_is}
 
@@ -170,16 +169,17 @@ comment_within bytes =
     by_comment (ltb most 2 || not (eqb (get_or bytes 0 0) 47)) Absent _ most (λ _. tt) (λ f.
     by_comment (eqb (get_or bytes 1 0) 47) (Closed (line_len bytes)) _ most (λ _. prefix_len-le-length (λ b. not (eqb b 10)) bytes) (λ _.
     by_comment (not (eqb (get_or bytes 1 0) 42)) Absent (closed (block_len (drop 2 bytes))) most (λ _. tt) (λ _.
-        let long : ltb most 2 ≡ false = or_front (ltb most 2) (not (eqb (get_or bytes 0 0) 47)) f in
-        closed_within (block_len (drop 2 bytes)) most (subst (IsUpTo (block_len (drop 2 bytes))) (length-drop 2 bytes) (block_up_to (drop 2 bytes))) (grind (arith, nat_tests)))))
+    let long : ltb most 2 ≡ false = or_front (ltb most 2) (not (eqb (get_or bytes 0 0) 47)) f in
+    closed_within (block_len (drop 2 bytes)) most (subst (IsUpTo (block_len (drop 2 bytes))) (length-drop 2 bytes) (block_up_to (drop 2 bytes))) (grind (arith, nat_tests)))))
 
 piece_within : (named : Bool) (bytes : List ℕ) → 0 < length bytes → PieceWithin (length bytes) (piece_at named bytes)
 unfolding piece_at
 piece_within named bytes long =
     elim (comment_at bytes) as (λ (c : Comment). comment_at bytes ≡ c → PieceWithin (length bytes) (elim c [ Absent ↦ plain_at named bytes | Closed n ↦ Blank n | Open ↦ Wrong ])) [
-    Absent ↦ λ e. plain_within named bytes long
-    | Closed n ↦ λ e. (let h : IsClosedUpTo (Closed n) (length bytes) = subst (λ (c : Comment). IsClosedUpTo c (length bytes)) e (comment_within bytes) in h)
-    | Open ↦ λ e. tt ] refl
+      | Absent ↦ λ e. plain_within named bytes long
+      | Closed n ↦ λ e. (let h : IsClosedUpTo (Closed n) (length bytes) = subst (λ (c : Comment). IsClosedUpTo c (length bytes)) e (comment_within bytes) in h)
+      | Open ↦ λ e. tt
+    ] refl
 
 -- a piece has a byte
 
@@ -241,9 +241,10 @@ Goes at bs = (named : Bool) (m : ℕ) → m ≤ length bs → AreTokens (at + 1 
 
 by_piece : (at : ℕ) (named : Bool) (b : ℕ) (bs : List ℕ) (p : Piece) → Goes at bs → IsPiece p (b ∷ bs) → PieceWithin (suc (length bs)) p
     → AreTokens at (b ∷ bs) (elim p [
-        Blank n ↦ tokens_from (at + 1) named (n - 1) bs
-        | Taken kind n ↦ token kind at (at + n) ∷ tokens_from (at + 1) (is_name kind) (n - 1) bs
-        | Wrong ↦ token kinds.Broken at at ∷ [] ])
+      | Blank n ↦ tokens_from (at + 1) named (n - 1) bs
+      | Taken kind n ↦ token kind at (at + n) ∷ tokens_from (at + 1) (is_name kind) (n - 1) bs
+      | Wrong ↦ token kinds.Broken at at ∷ []
+    ])
 by_piece at named b bs (Blank zero) ih is within = absurd (blank_has_byte is)
 by_piece at named b bs (Blank (suc m)) ih is within =
     let k : suc m - 1 ≡ m = omega arith in

@@ -1,5 +1,5 @@
 -- What a piece is spelled like.
-use Rattle.std.proofs.Common.{◌≡◌, ◌⊎◌, ℕ, zero, suc, ◌+◌, ◌-◌, ◌<◌, ◌≤◌, List, [], ◌∷◌, ◌++◌, length, take, drop, get_or, cond, eqb, ltb, Bool, true, false, ◌&&◌, ◌||◌, not, Option, Some, None, refl, sym, ap, subst, ◌∙◌, inl, inr, arith, append_assoc, length-append, length-drop, length-take, min}
+use Rattle.std.proofs.Common.{◌≡◌, ◌⊎◌, ℕ, zero, suc, ◌+◌, ◌<◌, ◌≤◌, List, [], ◌∷◌, ◌++◌, length, take, drop, get_or, cond, eqb, ltb, Bool, true, false, ◌&&◌, ◌||◌, not, Option, Some, None, refl, sym, ap, subst, ◌∙◌, inl, inr, arith, length-take, min}
 use Rattle.std.specs.Prelude.{IsTrue, codes}
 use Rattle.std.specs.List.{AllByRecursion, prefix_len}
 use Rattle.std.specs.Option.{option_map}
@@ -9,15 +9,14 @@ use Rattle.std.proofs.lemmas.Bool.Decides.{nat_tests}
 use Rattle.std.proofs.lemmas.Slice.Eq.{bytes_eq-Decides}
 use Rattle.mt_click.specs.declared.comment.Comment.{Comment}
 use Rattle.mt_click.specs.declared.comment.Comment.TheVariants.{Absent, Closed, Open}
-use Rattle.mt_click.specs.declared.token.Kind.{Kind}
 use Rattle.mt_click.specs.declared.token.Kind.TheVariants as kinds
 use Rattle.mt_click.specs.declared.piece.Piece.{Piece}
 use Rattle.mt_click.specs.declared.piece.Piece.TheVariants.{Blank, Taken, Wrong}
 use Rattle.mt_click.specs.Byte.{is_white, is_letter, is_digit, is_name_byte}
 use Rattle.mt_click.specs.Comment.{line_len, block_len, closed, comment_at, bare}
 use Rattle.mt_click.specs.Closing.{closing, plain_len}
-use Rattle.mt_click.specs.Piece.{name_len, digits_len, number_of, word_at, digits_at, parameter_at, arguments_to, arguments_at, pair_at, mark_of, mark_at, plain_at, piece_at}
-use Rattle.mt_click.specs.Spelled.{IsLineComment, IsBlockComment, IsWhite, IsBlank, IsIdentifier, IsSpelled}
+use Rattle.mt_click.specs.Piece.{name_len, digits_len, word_at, digits_at, parameter_at, arguments_to, arguments_at, pair_at, mark_of, mark_at, plain_at, piece_at}
+use Rattle.mt_click.specs.Spelled.{IsLineComment, IsBlockComment, IsBlank, IsIdentifier, IsSpelled}
 
 -- which way a test went
 pub chosen : {A : Type 0} (t : Bool) (x y z : A) → cond t x y ≡ z → ((t ≡ true) × (x ≡ z)) ⊎ ((t ≡ false) × (y ≡ z))
@@ -85,11 +84,12 @@ block_is : (bs : List ℕ) (n : ℕ) → block_len bs ≡ Some n → (inner : Li
 block_is [] n e = absurd cc
 block_is (b ∷ bs) n e =
     elim (chosen (eqb b 42 && eqb (get_or bs 0 0) 47) (Some 2) (option_map (λ k. k + 1) (block_len bs)) (Some n) e) [
-    inl h ↦ ends_here b bs n h.0 h.1
-    | inr h ↦
-    let s = some_is (block_len bs) n h.1 in
-    let r : (inner : List ℕ) × (take s.0 bs ≡ inner ++ 42 ∷ 47 ∷ []) = block_is bs s.0 s.1 in
-    (b ∷ r.0, ap (λ k. take k (b ∷ bs)) s.2 ∙ ap (λ (z : List ℕ). b ∷ z) r.1) ]
+      | inl h ↦ ends_here b bs n h.0 h.1
+      | inr h ↦
+          let s = some_is (block_len bs) n h.1 in
+          let r : (inner : List ℕ) × (take s.0 bs ≡ inner ++ 42 ∷ 47 ∷ []) = block_is bs s.0 s.1 in
+          (b ∷ r.0, ap (λ k. take k (b ∷ bs)) s.2 ∙ ap (λ (z : List ℕ). b ∷ z) r.1)
+    ]
 
 closed_is : (o : Option ℕ) (n : ℕ) → closed o ≡ Closed n → (m : ℕ) × (o ≡ Some m) × (n ≡ suc (suc m))
 closed_is None n e = absurd cc
@@ -116,15 +116,18 @@ comment_is bytes n e =
     let a = get_or bytes 0 0 in
     let b = get_or bytes 1 0 in
     elim (chosen (ltb (length bytes) 2 || not (eqb a 47)) Absent (cond (eqb b 47) (Closed (line_len bytes)) (cond (not (eqb b 42)) Absent (closed (block_len (drop 2 bytes))))) (Closed n) e) [
-    inl h ↦ absurd (let x : Absent ≡ Closed n = h.1 in cc)
-    | inr h ↦
-    let f = or_false (ltb (length bytes) 2) (not (eqb a 47)) h.0 in
-    let slash = not_not (eqb a 47) f.1 in
-    elim (chosen (eqb b 47) (Closed (line_len bytes)) (cond (not (eqb b 42)) Absent (closed (block_len (drop 2 bytes)))) (Closed n) h.1) [
-        inl g ↦ inr (inl (line_is bytes n f.0 slash g.0 (let x : Closed (line_len bytes) ≡ Closed n = g.1 in cc)))
-        | inr g ↦ elim (chosen (not (eqb b 42)) Absent (closed (block_len (drop 2 bytes))) (Closed n) g.1) [
-            inl k ↦ absurd (let x : Absent ≡ Closed n = k.1 in cc)
-            | inr k ↦ inr (inr (block_comment bytes n f.0 slash (not_not (eqb b 42) k.0) k.1)) ] ] ]
+      | inl h ↦ absurd (let x : Absent ≡ Closed n = h.1 in cc)
+      | inr h ↦
+          let f = or_false (ltb (length bytes) 2) (not (eqb a 47)) h.0 in
+          let slash = not_not (eqb a 47) f.1 in
+          elim (chosen (eqb b 47) (Closed (line_len bytes)) (cond (not (eqb b 42)) Absent (closed (block_len (drop 2 bytes)))) (Closed n) h.1) [
+            | inl g ↦ inr (inl (line_is bytes n f.0 slash g.0 (let x : Closed (line_len bytes) ≡ Closed n = g.1 in cc)))
+            | inr g ↦ elim (chosen (not (eqb b 42)) Absent (closed (block_len (drop 2 bytes))) (Closed n) g.1) [
+              | inl k ↦ absurd (let x : Absent ≡ Closed n = k.1 in cc)
+              | inr k ↦ inr (inr (block_comment bytes n f.0 slash (not_not (eqb b 42) k.0) k.1))
+            ]
+          ]
+    ]
 
 -- what a piece is at the front of a text
 abbrev pub IsPiece : Piece → List ℕ → Type 0
@@ -254,6 +257,7 @@ pub piece_is : (named : Bool) (bytes : List ℕ) → 0 < length bytes → IsPiec
 unfolding piece_at
 piece_is named bytes long =
     elim (comment_at bytes) as (λ (c : Comment). comment_at bytes ≡ c → IsPiece (elim c [ Absent ↦ plain_at named bytes | Closed n ↦ Blank n | Open ↦ Wrong ]) bytes) [
-    Absent ↦ λ e. plain_is named bytes long
-    | Closed n ↦ λ e. comment_is bytes n e
-    | Open ↦ λ e. tt ] refl
+      | Absent ↦ λ e. plain_is named bytes long
+      | Closed n ↦ λ e. comment_is bytes n e
+      | Open ↦ λ e. tt
+    ] refl

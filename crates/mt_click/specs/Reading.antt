@@ -1,5 +1,19 @@
 -- Reading the parts of a configuration from its tokens. Each reader answers what it read and the tokens
 -- behind it, or the fault of the first token that may not stand where it stands.
+--
+--   config    = [ statement ] { ";" [ statement ] }
+--   statement = class | declare | connect
+--   class     = "elementclass" NAME "{" [ PARAM { "," PARAM } "|" ] body "}"
+--   body      = [ inner ] { ";" [ inner ] }
+--   inner     = declare | connect
+--   declare   = NAME "," NAME { "," NAME } "::" use
+--   connect   = end { "->" end }
+--   end       = [ "[" NUMBER "]" ] item [ "[" NUMBER "]" ]
+--   item      = NAME | NAME "::" use | use
+--   use       = NAME [ "(" arguments ")" ]
+--
+-- The `;` behind a class may be left out. The first end of a connect has no input port and the last no
+-- output port. NAME is an identifier other than `elementclass`, PARAM a `$` and an identifier.
 use Rattle.std.specs.Prelude.{◌≡◌, ℕ, zero, suc, ◌<◌, List, [], ◌∷◌, ◌++◌, length, Option, Some, None, is_some, Result, Ok, Err, Bool, true, false, if◌then◌else◌}
 use Rattle.std.specs.Option.{option_map, option_to_list}
 use denote.Ref.{Bor}
