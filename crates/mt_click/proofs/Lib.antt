@@ -6,3 +6,6 @@ pub mod Loop
 pub mod Dollars
 pub mod Spelling
 pub mod Gaps
+pub mod Trees
+pub mod Printed
+pub mod Whole

@@ -27,7 +27,7 @@ nothing_left stages.Names inside = refl
 nothing_left stages.Head inside = refl
 nothing_left stages.Parameters inside = refl
 
-regroup : (front new : List Part) (read : Result (List Part) Fault) → with_front front (read >>= λ ps. Ok (new ++ ps)) ≡ with_front (front ++ new) read
+pub regroup : (front new : List Part) (read : Result (List Part) Fault) → with_front front (read >>= λ ps. Ok (new ++ ps)) ≡ with_front (front ++ new) read
 regroup front new (Ok ps) = ap (λ (x : List Part). Ok x) (sym (append_assoc front new ps))
 regroup front new (Err f) = refl
 
@@ -78,7 +78,7 @@ pub has_failed : (front : List Part) (stage : Stage) (inside : Bool) (rest : Lis
     → read_move stage inside rest ≡ Err f → IsSoFar front stage inside rest total → total ≡ Err f
 has_failed front stage inside rest f total e so_far = failed so_far.0 front stage inside rest f total e so_far.1 so_far.2
 
-whole : (read : Result (List Part) Fault) → with_front [] read ≡ read
+pub whole : (read : Result (List Part) Fault) → with_front [] read ≡ read
 whole (Ok ps) = refl
 whole (Err f) = refl
 

@@ -8,3 +8,4 @@ pub mod Reading
 pub mod Place
 pub mod Replacing
 pub mod Spelled
+pub mod Grammar

@@ -1,7 +1,8 @@
 //! The parts of a whole configuration.
-ghost use Rattle.std.specs.Prelude.{◌≡◌, ◌++◌, OnOk};
+ghost use Rattle.std.specs.Prelude.{◌≡◌, ◌++◌, List, OnOk, Ok};
 ghost use Rattle.std.specs.Option.{option_to_list};
 ghost use Rattle.mt_click.specs.Reading.{Gives, parts_of_tokens};
+ghost use Rattle.mt_click.specs.Grammar.{OuterTree, IsConfig, ArePrinted, config_parts};
 
 use crate::fault::ReadError;
 use crate::moves::{Stage, move_of};
@@ -21,8 +22,7 @@ fn push_part(parts: &mut Vec<Part>, part: Option<Part>) -> Result<(), AllocError
     }
 }
 
-/// The parts that tokens are, in order.
-pub fn parts_of(alloc: Global, tokens: &[Token]) -> Result<Vec<Part>, ReadError>
+fn collect(alloc: Global, tokens: &[Token]) -> Result<Vec<Part>, ReadError>
     ensures { Gives (λ v. v.items) result (parts_of_tokens tokens.now) }
 {
     let mut parts = Vec::new(alloc);
@@ -41,4 +41,15 @@ pub fn parts_of(alloc: Global, tokens: &[Token]) -> Result<Vec<Part>, ReadError>
             Err(fault) => return Err(ReadError::Fault(fault)),
         }
     }
+}
+
+/// The parts that tokens are, in order, or the fault of the first token with which what precedes
+/// begins no configuration.
+pub fn parts_of(alloc: Global, tokens: &[Token]) -> Result<Vec<Part>, ReadError>
+    // What is read, or which fault it is.
+    ensures exact { Gives (λ v. v.items) result (parts_of_tokens tokens.now) }
+    // What is printed for a tree of the grammar is read as that tree, unless memory runs out.
+    ensures printed { (tree : List OuterTree) → IsConfig tree → ArePrinted tree tokens.now → Gives (λ v. v.items) result (Ok (config_parts tree)) }
+{
+    collect(alloc, tokens)
 }

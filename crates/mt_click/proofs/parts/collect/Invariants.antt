@@ -1,7 +1,7 @@
 use Rattle.std.proofs.Common.{length}
 use Rattle.mt_click.specs.Reading.{parts_of_tokens}
 use Rattle.mt_click.proofs.Loop.{IsSoFar}
-use Rattle.mt_click.proofs.parts.parts_of.Given as goal
+use Rattle.mt_click.proofs.parts.collect.Given as goal
 
 abbrev pub invariant-loop-step : goal.invariant-loop-step
 invariant-loop-step l = IsSoFar l.parts.items l.stage l.inside l.rest (parts_of_tokens l.tokens)
