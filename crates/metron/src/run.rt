@@ -27,11 +27,29 @@ use std::alloc::Global;
 /// writes a capture of those that are sent.
 pub fn metron<F: Files>(alloc: Global, words: &[String], files: &mut F) -> Outcome
     ensures status { result.status ≡ status_of result.fault }
-    ensures run { IsRun (map string_bytes words.now) (state_of F.held F.written F.read_faults F.write_faults files.old) (state_of F.held F.written F.read_faults F.write_faults files.new) (order_of result) result.fault }
-    ensures done { result.fault ≡ Fault.Done → IsFinished (map string_bytes words.now) (state_of F.held F.written F.read_faults F.write_faults files.old) (state_of F.held F.written F.read_faults F.write_faults files.new) (order_of result) }
-    ensures nothing_written { IsEarly result.fault → IsUntouched (state_of F.held F.written F.read_faults F.write_faults files.old) (state_of F.held F.written F.read_faults F.write_faults files.new) (order_of result) }
-    ensures exact { IsExact (command_of (map string_bytes words.now)) (state_of F.held F.written F.read_faults F.write_faults files.old) (state_of F.held F.written F.read_faults F.write_faults files.new) result.fault }
-    ensures complete { NoneFailed (state_of F.held F.written F.read_faults F.write_faults files.old) (state_of F.held F.written F.read_faults F.write_faults files.new) → (answer : Fault) → due (map string_bytes words.now) (F.held files.old) ≡ Some answer → (result.fault ≡ answer) ⊎ (result.fault ≡ Fault.Memory) }
+    ensures run { IsRun (map string_bytes words.now)
+        (state_of F.held F.written F.read_faults F.write_faults files.old)
+        (state_of F.held F.written F.read_faults F.write_faults files.new)
+        (order_of result) result.fault }
+    ensures done { result.fault ≡ Fault.Done
+        → IsFinished (map string_bytes words.now)
+        (state_of F.held F.written F.read_faults F.write_faults files.old)
+        (state_of F.held F.written F.read_faults F.write_faults files.new)
+        (order_of result) }
+    ensures nothing_written { IsEarly result.fault
+        → IsUntouched
+        (state_of F.held F.written F.read_faults F.write_faults files.old)
+        (state_of F.held F.written F.read_faults F.write_faults files.new)
+        (order_of result) }
+    ensures exact { IsExact (command_of (map string_bytes words.now))
+        (state_of F.held F.written F.read_faults F.write_faults files.old)
+        (state_of F.held F.written F.read_faults F.write_faults files.new)
+        result.fault }
+    ensures complete { NoneFailed
+        (state_of F.held F.written F.read_faults F.write_faults files.old)
+        (state_of F.held F.written F.read_faults F.write_faults files.new)
+        → (answer : Fault) → due (map string_bytes words.now) (F.held files.old) ≡ Some answer
+        → (result.fault ≡ answer) ⊎ (result.fault ≡ Fault.Memory) }
 {
     let mut order = Vec::new(alloc);
     let fault = run(alloc, words, files, &mut order);
@@ -40,7 +58,10 @@ pub fn metron<F: Files>(alloc: Global, words: &[String], files: &mut F) -> Outco
 
 fn run<F: Files>(alloc: Global, words: &[String], files: &mut F, order: &mut Vec<u32>) -> Fault
     requires { order.old.items ≡ [] }
-    ensures { IsRun (map string_bytes words.now) (state_of F.held F.written F.read_faults F.write_faults files.old) (state_of F.held F.written F.read_faults F.write_faults files.new) order.new.items result }
+    ensures { IsRun (map string_bytes words.now)
+        (state_of F.held F.written F.read_faults F.write_faults files.old)
+        (state_of F.held F.written F.read_faults F.write_faults files.new)
+        order.new.items result }
 {
     let Some(command) = command_in(words) else {
         return Fault::UsageWord(0);

@@ -29,8 +29,10 @@ pub(crate) fn serve<F: Files>(
     requires lengths { All (λ r. length r.1 ≤ 262144) records.now }
     requires few { length records.now < 2 ^ 32 }
     requires first { order.old.items ≡ [] }
-    ensures ok { OnOk result (HasServed (device_text device chain.now) records.now (F.written files.old output.now) (F.written files.new output.now) order.new.items) }
-    ensures err { OnErr result (HasServedSome (device_text device chain.now) records.now (F.written files.old output.now) (F.written files.new output.now) order.new.items) }
+    ensures ok { OnOk result (HasServed (device_text device chain.now) records.now
+        (F.written files.old output.now) (F.written files.new output.now) order.new.items) }
+    ensures err { OnErr result (HasServedSome (device_text device chain.now) records.now
+        (F.written files.old output.now) (F.written files.new output.now) order.new.items) }
     ensures cause { IfErr result (ServeFault device (F.write_faults files.old output.now) (F.write_faults files.new output.now)) }
 
     ensures other_files { IsSameBut output.now (F.written files.old) (F.written files.new) }
