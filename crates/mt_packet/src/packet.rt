@@ -1,7 +1,7 @@
 //! A packet on its way through a chain.
 ghost use Rattle.std.specs.Prelude.{◌≡◌, ◌+◌, ◌^◌, ◌<◌, ◌≤◌, ◌↔◌, ◌++◌, length, take, drop, slice_set, true, IsTrue, if◌then◌else◌};
 ghost use Rattle.mt_packet.specs.Flow.{packet_flow};
-ghost use Rattle.mt_packet.specs.Header.{field_of};
+ghost use Rattle.mt_packet.specs.Header.{field_of, fields_of, greatest_of};
 ghost use Rattle.mt_packet.specs.Ipv4.{IsValidIpv4, header_length, dst_of, has_ports};
 ghost use Rattle.mt_packet.specs.Packet.{PacketState, has_ethernet, frame_of, datagram_of, packet_header, header_after, arrived, stripped, encapsulated, ethernet_header, checked, checked_datagram, layer_checked, with_field, CanWrite, IsChecked, HasEthernet};
 ghost use Rattle.std.specs.Bool.{OnTrue};
@@ -96,35 +96,19 @@ impl Packet {
     /// A field, read at the present bytes. Where the Ethernet header was taken away, the fields of
     /// Ethernet and ARP are absent, and those of IPv4 are read from the first byte on.
     pub fn field(&self, field: Field) -> u64
-        ensures { result ≡ field_of (packet_header self.now) field }
+        ensures value { result ≡ field_of (packet_header self.now) field }
+        ensures range { result ≤ greatest_of field }
     {
-        let ip = Datagram::new(ethernet::behind_header(&self.bytes));
-        match field {
-            Field::Device => u64::from(self.device),
-            Field::EthType => ethernet::kind(self.ethernet()),
-            Field::EthDst => ethernet::destination(self.ethernet()),
-            Field::EthSrc => ethernet::source(self.ethernet()),
-            Field::ArpOp => ethernet::arp_operation(self.ethernet()),
-            Field::Proto => u64::from(ip.protocol()),
-            Field::Src => u64::from(ip.source()),
-            Field::Dst => u64::from(ip.destination()),
-            Field::Dscp => u64::from(ip.code_point()),
-            Field::Ecn => u64::from(ip.congestion()),
-            Field::Sport => ip.source_port(),
-            Field::Dport => ip.destination_port(),
-            Field::IcmpType => u64::from(ip.icmp_type()),
-            Field::IpOk => ip.validity(),
-            Field::Ports => ip.ports(),
-            Field::Mf => u64::from(ip.more_fragments()),
-            Field::FragOff => u64::from(ip.fragment_offset()),
-            Field::Ttl => u64::from(ip.time_to_live()),
-            Field::Syn => u64::from(ip.syn()),
-            Field::Ack => u64::from(ip.ack()),
-            Field::Fin => u64::from(ip.fin()),
-            Field::Rst => u64::from(ip.rst()),
-            Field::Paint => u64::from(self.paint),
-            Field::Annotation => u64::from(self.annotation),
-        }
+        let datagram = ethernet::behind_header(&self.bytes);
+        let frame = self.ethernet();
+        read(
+            self.device,
+            frame,
+            datagram,
+            self.paint,
+            self.annotation,
+            field,
+        )
     }
 
     /// Writes a field, mends the checksums that cover it, and counts the write. The header checksum
@@ -259,6 +243,54 @@ impl Packet {
             Layer::Frame | Layer::Framed => &self.bytes,
             Layer::Bare | Layer::Ip => &[],
         }
+    }
+}
+
+/// A field of the bytes in which the Ethernet header stands and of the data behind it.
+fn read(device: u32, frame: &[u8], datagram: &[u8], paint: u8, annotation: u32, field: Field) -> u64
+    ensures value { result ≡ field_of (fields_of device frame.now datagram.now paint annotation) field }
+    ensures range { result ≤ greatest_of field }
+{
+    read_at_place(device, frame, datagram, paint, annotation, field)
+}
+
+/// The same, each field at its own place.
+fn read_at_place(
+    device: u32,
+    frame: &[u8],
+    datagram: &[u8],
+    paint: u8,
+    annotation: u32,
+    field: Field,
+) -> u64
+    ensures { result ≡ field_of (fields_of device frame.now datagram.now paint annotation) field }
+{
+    let ip = Datagram::new(datagram);
+    match field {
+        Field::Device => u64::from(device),
+        Field::EthType => ethernet::kind(frame),
+        Field::EthDst => ethernet::destination(frame),
+        Field::EthSrc => ethernet::source(frame),
+        Field::ArpOp => ethernet::arp_operation(frame),
+        Field::Proto => u64::from(ip.protocol()),
+        Field::Src => u64::from(ip.source()),
+        Field::Dst => u64::from(ip.destination()),
+        Field::Dscp => u64::from(ip.code_point()),
+        Field::Ecn => u64::from(ip.congestion()),
+        Field::Sport => ip.source_port(),
+        Field::Dport => ip.destination_port(),
+        Field::IcmpType => u64::from(ip.icmp_type()),
+        Field::IpOk => ip.validity(),
+        Field::Ports => ip.ports(),
+        Field::Mf => u64::from(ip.more_fragments()),
+        Field::FragOff => u64::from(ip.fragment_offset()),
+        Field::Ttl => u64::from(ip.time_to_live()),
+        Field::Syn => u64::from(ip.syn()),
+        Field::Ack => u64::from(ip.ack()),
+        Field::Fin => u64::from(ip.fin()),
+        Field::Rst => u64::from(ip.rst()),
+        Field::Paint => u64::from(paint),
+        Field::Annotation => u64::from(annotation),
     }
 }
 
