@@ -1,5 +1,12 @@
-mod Meanings
+mod Ends
+mod Faults
 mod Numbers
 mod Read
+mod Rows
+mod Signs
+mod Sound
+mod Spans
+mod Walk
+pub mod Meanings
 pub mod Tokens
 pub mod Words

@@ -1,5 +1,5 @@
 -- What the grammar spells is read as the pattern that it spells.
-use Rattle.std.proofs.Common.{◌≡◌, ℕ, List, [], ◌∷◌, ◌++◌, length, Option, Some, None, Result, Ok, Err, ◌⊎◌, inl, inr, refl, sym, ap, subst, ◌∙◌, append_assoc}
+use Rattle.std.proofs.Common.{◌≡◌, ℕ, List, [], ◌∷◌, ◌++◌, length, Option, Some, None, Result, Ok, ◌⊎◌, inl, inr, refl, sym, ap, ◌∙◌, append_assoc}
 use Rattle.std.proofs.lemmas.List.{append-nil}
 use Rattle.mt_pattern.specs.declared.pattern.Pattern.{Pattern}
 use Rattle.mt_pattern.specs.declared.pattern.Pattern.TheVariants as pattern
@@ -22,8 +22,9 @@ use Rattle.std.specs.Prelude.{option_map}
 use Rattle.mt_pattern.specs.Kind.{kind_of}
 use Rattle.mt_pattern.specs.Test.{next_word, first_word, further_word}
 use Rattle.mt_pattern.specs.Shape.{pattern_of}
-use Rattle.mt_pattern.specs.Parser.{parser, tight, to_either, loose, opens, group, joined, part_step, step_of, finish_of, run, step_or_fault, closed, opened, tested, gone_on, start, parse_of}
-use Rattle.mt_pattern.specs.Grammar.{Far, Part, Whole, far, far_with, so_far, and_on, test_from, Level, One, Both, Either, Spells, tested as a_test, negation, group as grouped, one, and, both, or, IsSpelled}
+use Rattle.mt_pattern.specs.Parser.{parser, tight, to_either, loose, opens, group, joined, part_step, step_of, finish_of, run, closed, opened, tested, gone_on, start, parse_of}
+use Rattle.mt_pattern.specs.Grammar.{Level, One, Both, Either, Spells, tested as a_test, negation, group as grouped, one, and, both, or, IsSpelled, IsPattern}
+use Rattle.mt_pattern.proofs.Walk.{Far, Part, Whole, far, far_with, and_on, test_from, form_is_read}
 
 -- what may follow a level: nothing, or one of these tokens
 abbrev EndsBoth : Kind → Type 0
@@ -196,7 +197,7 @@ unfolding run
 on_token before after token rest end e = rw e refl
 
 says : (level : Level) (tokens : List Token) (p : Pattern) → Spells level tokens p → Says level tokens p
-says _ _ _ (a_test tokens found e) = λ s rest end h. test_read tokens rest (Part Start) found s end e h
+says _ _ _ (a_test tokens found d) = λ s rest end h. test_read tokens rest (Part Start) found s end (form_is_read tokens found d) h
 says _ _ _ (negation sign tokens p k d) = λ s rest end h.
     (on_token (parser s (reading.Part Start)) (parser (wait.Negation ∷ s) (reading.Part Start)) sign (tokens ++ rest) end (not_opens s (kind_of sign.word) sign.word k)
     ∙ says One tokens p d (wait.Negation ∷ s) rest end h)
@@ -230,8 +231,11 @@ read_alone : (p : Pattern) (end : ℕ) → run (parser [] (reading.Whole p Nothi
 unfolding run finish_of tight loose to_either
 read_alone p end = refl
 
-pub spelled_is_read : (text : List ℕ) (p : Pattern) → IsSpelled (tokens_of text) p → parse_of text ≡ Ok p
-unfolding parse_of
-spelled_is_read text p d =
-    let all = says Either (tokens_of text) p d [] [] (length text) nothing_is_calm nothing_is_settled tt ∙ read_alone p (length text) in
+pub spelled_runs : (tokens : List Token) (p : Pattern) (end : ℕ) → IsSpelled tokens p → run start tokens end ≡ Ok p
+spelled_runs tokens p end d =
+    let all = says Either tokens p d [] [] end nothing_is_calm nothing_is_settled tt ∙ read_alone p end in
     rw append-nil at all
+
+pub spelled_is_read : (text : List ℕ) (p : Pattern) → IsPattern text p → parse_of text ≡ Ok p
+unfolding parse_of
+spelled_is_read text p d = spelled_runs (tokens_of text) p (length text) d

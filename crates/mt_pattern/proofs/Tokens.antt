@@ -1,12 +1,12 @@
 -- The tokens of a text, one after another.
-use Rattle.std.proofs.Common.{◌≡◌, ◌≢◌, ℕ, zero, suc, ◌+◌, ◌-◌, ◌<◌, ◌≤◌, Bool, true, false, ◌||◌, nat_lt, eqb, List, [], ◌∷◌, length, get_or, drop, take, refl, ap, sym, subst, ◌∙◌, arith, eq-eqb, drop-cons, length-drop, get_or-drop}
-use Rattle.std.specs.Prelude.{◌==◌, Option, Result, slice_index}
+use Rattle.std.proofs.Common.{◌≡◌, ℕ, zero, suc, ◌+◌, ◌<◌, ◌≤◌, false, eqb, List, [], ◌∷◌, length, get_or, drop, refl, arith, eq-eqb, drop-cons, length-drop, get_or-drop}
+use Rattle.std.specs.Prelude.{Option, Result}
 use Rattle.std.specs.List.{prefix_len}
 use Rattle.std.proofs.lemmas.List.Sums.{prefix_len_stops}
 use Rattle.std.proofs.lemmas.Bool.Decides.{nat_tests}
 use Rattle.mt_pattern.specs.declared.pattern.Pattern.{Pattern}
 use Rattle.mt_pattern.specs.declared.parser.Parser.{Parser}
-use Rattle.mt_pattern.specs.Lexis.{Token, is_space, sign_len, ends_word_at, word_len, token_len, next_place, token_at, tokens_from}
+use Rattle.mt_pattern.specs.Lexis.{is_space, ends_word_at, word_len, token_len, next_place, token_at, tokens_from}
 use Rattle.mt_pattern.specs.declared.kind.Kind.{Kind}
 use Rattle.mt_pattern.specs.Kind.{kind_of}
 use Rattle.mt_pattern.specs.Parser.{run, step_of, finish_of, ended, step_or_fault}

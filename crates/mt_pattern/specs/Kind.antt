@@ -1,5 +1,5 @@
 -- What a token is, by its spelling.
-use Rattle.std.specs.Prelude.{ℕ, Bool, ◌||◌, if◌then◌else◌, List, codes, Option, Some, None}
+use Rattle.std.specs.Prelude.{ℕ, ◌||◌, if◌then◌else◌, List, codes, Option, Some, None}
 use Rattle.std.specs.Str.{bytes_eq}
 use Rattle.mt_pattern.specs.declared.kind.Kind.{Kind}
 use Rattle.mt_pattern.specs.declared.kind.Kind.TheVariants.{Open, Close, Not, And, Or, More, Less, AtLeast, AtMost, Always, Src, Dst, Host, Net, Port, Tcp, Udp, Icmp, Ip, Proto, Dscp, Ttl, Frag, Unfrag, Opt, Syn, Ack, Fin, Rst, MessageType, Other}

@@ -1,6 +1,6 @@
 -- How a text falls into tokens. White space separates them. A token is a sign, which is `(`, `)`, `!`,
 -- `||`, `&&`, `>=`, `<=`, `>` or `<`, or a word, which runs up to white space or to the next sign.
-use Rattle.std.specs.Prelude.{ℕ, zero, suc, ◌+◌, Bool, ◌&&◌, ◌||◌, ◌==◌, nat_lt, if◌then◌else◌, List, [], ◌∷◌, length, take, drop, slice_index}
+use Rattle.std.specs.Prelude.{◌≡◌, ℕ, zero, suc, ◌+◌, Bool, ◌&&◌, ◌||◌, ◌==◌, nat_lt, if◌then◌else◌, List, [], ◌∷◌, length, take, drop, slice_index}
 use Rattle.std.specs.List.{prefix_len}
 
 -- space, tab, line feed, carriage return
@@ -55,3 +55,8 @@ tokens_from (suc most) text place =
 -- the tokens of a text
 unfoldable pub tokens_of : List ℕ → List Token
 tokens_of text = tokens_from (length text) text 0
+
+-- each of these can stand in a text: its bytes are one token
+abbrev pub AreTokens : List Token → Type 0
+AreTokens [] = Unit {0}
+AreTokens (token ∷ rest) = (tokens_of token.word ≡ record { at = 0; word = token.word } ∷ []) × AreTokens rest

@@ -8,7 +8,6 @@ use Rattle.mt_pattern.specs.declared.kind.Kind.{Kind}
 use Rattle.mt_pattern.specs.declared.kind.Kind.TheVariants as word
 use Rattle.mt_pattern.specs.declared.test.Place.{Place}
 use Rattle.mt_pattern.specs.declared.test.Place.TheVariants.{Start}
-use Rattle.mt_pattern.specs.declared.test.More.{More}
 use Rattle.mt_pattern.specs.declared.test.More.TheVariants.{Nothing}
 use Rattle.mt_pattern.specs.declared.test.Next.{Next}
 use Rattle.mt_pattern.specs.declared.test.Next.TheVariants as next

@@ -26,7 +26,7 @@ fn decimal_up_to(greatest: u64, word: &[u8]) -> Option<u64>
 
 /// An IPv4 address: four decimal numbers up to 255, joined by dots.
 #[tactic(auto, unfolding(crate::specs::Number::address_of))]
-pub(crate) fn address(word: &[u8]) -> Option<u64>
+pub fn address(word: &[u8]) -> Option<u64>
     ensures value { result ≡ address_of word.now }
     ensures range { IfSome result (λ n. n < 4294967296) }
 {
@@ -60,7 +60,7 @@ fn prefix_span(address: u64, length: u64) -> Span
 /// The addresses of a prefix: an address, `/` and 0 to 32, where bits past the length do not count, or
 /// an address alone.
 #[tactic(auto, unfolding(crate::specs::Number::prefix_at))]
-pub(crate) fn prefix(word: &[u8]) -> Option<Span>
+pub fn prefix(word: &[u8]) -> Option<Span>
     ensures { result ≡ prefix_of word.now }
 {
     match place_of(b'/', word) {

@@ -2,14 +2,15 @@
 //! header meets it.
 #![tactic(auto)]
 
-mod address;
+pub mod address;
 mod build;
 mod fault;
 mod kind;
 pub mod laws;
 mod lexis;
 mod meaning;
-mod number;
+pub mod number;
+mod order;
 mod parse;
 mod parser;
 mod pattern;

@@ -3,11 +3,12 @@ ghost use Rattle.std.specs.Prelude.{◌≡◌};
 ghost use Rattle.mt_packet.specs.Header.{field_of};
 ghost use Rattle.mt_pattern.specs.Meaning.{meaning_of, contains_number};
 
+use crate::order::in_order;
 use crate::pattern::Pattern;
 use mt_packet::{Header, Span};
 
-/// Whether the pattern holds for the header. Takes no memory. A chain of `Not`, and the left sides of
-/// `And` and `Or`, are walked in turn; each right side costs a call.
+/// Whether the pattern holds for the header. Takes no memory. A chain of `Not`, and one side of each `And`
+/// and `Or`, are walked in turn; the other side, a small one where there is one, costs a call.
 pub fn holds(pattern: &Pattern, values: &Header) -> bool
     ensures { result ≡ meaning_of pattern.now (λ field. field_of values.now field) }
 {
@@ -22,16 +23,18 @@ pub fn holds(pattern: &Pattern, values: &Header) -> bool
                 rest = inner.get();
             }
             Pattern::And(left, right) => {
-                if !holds(right.get(), values) {
+                let (first, last) = in_order(left.get(), right.get());
+                if !holds(first, values) {
                     return negated;
                 }
-                rest = left.get();
+                rest = last;
             }
             Pattern::Or(left, right) => {
-                if holds(right.get(), values) {
+                let (first, last) = in_order(left.get(), right.get());
+                if holds(first, values) {
                     return !negated;
                 }
-                rest = left.get();
+                rest = last;
             }
         }
     }

@@ -87,7 +87,7 @@ fn number(word: &[u8]) -> Option<u64>
 
 /// A number that is at most `greatest`.
 #[tactic(auto, unfolding(crate::specs::Number::number_up_to))]
-pub(crate) fn number_up_to(greatest: u64, word: &[u8]) -> Option<u64>
+pub fn number_up_to(greatest: u64, word: &[u8]) -> Option<u64>
     ensures value { result ≡ number_up_to greatest word.now }
     ensures range { IfSome result (λ n. n ≤ greatest) }
 {

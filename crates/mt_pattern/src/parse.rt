@@ -1,7 +1,7 @@
 //! From a text to its pattern.
-ghost use Rattle.std.specs.Prelude.{◌≡◌, Ok, IfOk, IfErr};
+ghost use Rattle.std.specs.Prelude.{IfOk, IfErr};
 ghost use Rattle.mt_pattern.specs.Parser.{parse_of};
-ghost use Rattle.mt_pattern.specs.Cause.{IsCause};
+ghost use Rattle.mt_pattern.specs.Cause.{IsOnlyPattern, IsCause, Tells};
 
 use crate::fault::PatternFault;
 use crate::kind::kind_of;
@@ -14,8 +14,9 @@ impl Pattern {
     /// The pattern that a text is, in the language of IPFilter and IPClassifier. No call is kept for
     /// what is open, so a text may nest as deep as it is long.
     pub fn parse(alloc: Global, text: &[u8]) -> Result<Pattern, PatternFault>
-        ensures pattern { IfOk result (λ p. parse_of text.now ≡ Ok p) }
+        ensures pattern { IfOk result (λ p. IsOnlyPattern text.now p) }
         ensures fault { IfErr result (λ why. IsCause text.now why) }
+        ensures read { Tells (parse_of text.now) result }
     {
         let mut parser = Parser::new(alloc);
         let mut place = 0;

@@ -1,5 +1,6 @@
 //! Patterns on headers.
 
+use crate::order::owned_in_order;
 use mt_packet::{Field, Span};
 use sqlite_items::Boxed;
 
@@ -18,8 +19,8 @@ pub enum Pattern {
     Or(Boxed<Pattern>, Boxed<Pattern>),
 }
 
-/// A chain of `Not`, and the left sides of `And` and `Or`, are let go in turn and not in a call each,
-/// since a text can make them as long as itself.
+/// A chain of `Not`, and one side of each `And` and `Or`, are let go in turn and not in a call each, since
+/// a text can make them as long as itself.
 impl Drop for Pattern {
     fn drop(mut self) {
         loop {
@@ -28,12 +29,14 @@ impl Drop for Pattern {
                 Pattern::Within(_, _) => return,
                 Pattern::Not(inner) => self = inner.into_inner(),
                 Pattern::And(left, right) => {
-                    drop(right);
-                    self = left.into_inner();
+                    let (first, last) = owned_in_order(left, right);
+                    drop(first);
+                    self = last.into_inner();
                 }
                 Pattern::Or(left, right) => {
-                    drop(right);
-                    self = left.into_inner();
+                    let (first, last) = owned_in_order(left, right);
+                    drop(first);
+                    self = last.into_inner();
                 }
             }
         }

@@ -232,8 +232,8 @@ fn digit(letter: u8) -> u8
     }
 }
 
-/// The header of the frame with these bytes in hexadecimal.
-fn header(alloc: Global, text: &str) -> Result<Header, AllocError> {
+/// The bytes that are written in hexadecimal.
+fn octets(alloc: Global, text: &str) -> Result<Vec<u8>, AllocError> {
     let mut bytes = Vec::new(alloc);
     let mut high: Option<u8> = None;
     for letter in text.as_bytes() {
@@ -245,6 +245,24 @@ fn header(alloc: Global, text: &str) -> Result<Header, AllocError> {
             }
         }
     }
+    Ok(bytes)
+}
+
+/// The header of the frame with these bytes in hexadecimal.
+fn header(alloc: Global, text: &str) -> Result<Header, AllocError> {
+    Ok(Header::of(1, &Frame::new(octets(alloc, text)?)))
+}
+
+/// The header of a frame in which other bytes stand from an offset on.
+fn changed(alloc: Global, frame: &str, at: u8, change: &str) -> Result<Header, AllocError> {
+    let mut bytes = octets(alloc, frame)?;
+    let mut place = usize::from(at);
+    for byte in octets(alloc, change)?.iter() {
+        if place < bytes.len() {
+            bytes[place] = *byte;
+            place += 1;
+        }
+    }
     Ok(Header::of(1, &Frame::new(bytes)))
 }
 
@@ -252,6 +270,78 @@ fn header(alloc: Global, text: &str) -> Result<Header, AllocError> {
 fn met(alloc: Global, text: &str, frame: &str) -> Option<bool> {
     let pattern = Pattern::parse(alloc, text.as_bytes()).ok()?;
     Some(holds(&pattern, &header(alloc, frame).ok()?))
+}
+
+/// Whether the text's pattern holds for the frame in which other bytes stand from an offset on.
+fn met_once_changed(alloc: Global, text: &str, frame: &str, at: u8, change: &str) -> Option<bool> {
+    let pattern = Pattern::parse(alloc, text.as_bytes()).ok()?;
+    Some(holds(&pattern, &changed(alloc, frame, at, change).ok()?))
+}
+
+/// Whether the text's pattern holds for the frame wherever one of these stands from an offset on.
+fn met_by_all(alloc: Global, text: &str, frame: &str, at: u8, changes: &str) -> bool {
+    for change in changes.split_ascii_whitespace() {
+        if met_once_changed(alloc, text, frame, at, change) != Some(true) {
+            return false;
+        }
+    }
+    true
+}
+
+/// Whether it holds for none of them.
+fn met_by_none(alloc: Global, text: &str, frame: &str, at: u8, changes: &str) -> bool {
+    for change in changes.split_ascii_whitespace() {
+        if met_once_changed(alloc, text, frame, at, change) != Some(false) {
+            return false;
+        }
+    }
+    true
+}
+
+/// Whether what a row says is so.
+fn is_told_apart(alloc: Global, row: &str) -> Option<bool> {
+    let (text, row) = row.split_once("; ")?;
+    let (frame, row) = row.split_once("; ")?;
+    let (at, row) = row.split_once("; ")?;
+    let (met, missed) = row.split_once("; ")?;
+    let at = at.parse().ok()?;
+    let frame = match frame {
+        "tcp" => TCP,
+        "udp" => UDP,
+        _ => ICMP,
+    };
+    Some(met_by_all(alloc, text, frame, at, met) && met_by_none(alloc, text, frame, at, missed))
+}
+
+/// A text that is opened and closed so many times around another.
+fn nested(
+    alloc: Global,
+    opening: &str,
+    inner: &str,
+    closing: &str,
+    times: usize,
+) -> Result<String, AllocError> {
+    let mut text = String::new(alloc);
+    for _ in 0..times {
+        text.push_str(opening)?;
+    }
+    text.push_str(inner)?;
+    for _ in 0..times {
+        text.push_str(closing)?;
+    }
+    Ok(text)
+}
+
+/// Whether the pattern of a text that nests so holds for the empty frame.
+fn met_nested(
+    alloc: Global,
+    opening: &str,
+    inner: &str,
+    closing: &str,
+    times: usize,
+) -> Option<bool> {
+    let text = nested(alloc, opening, inner, closing, times).ok()?;
+    met(alloc, text.as_str(), "")
 }
 
 #[test]
@@ -429,4 +519,100 @@ fn headers_that_meet_a_pattern(rt: HostRuntime) {
     for (text, frame, wanted) in &rows {
         assert!(rt; met(rt.alloc(), text, frame) == Some(*wanted));
     }
+}
+
+/// A TCP segment of 10.0.0.5:5000 to 198.51.100.9:53.
+const TCP: &str =
+    "02000000000202000000000108004500002800010000400600000a000005c63364091388003500000000000000005000200000000000";
+
+/// A UDP datagram, and an ICMP message, between the same addresses.
+const UDP: &str =
+    "02000000000202000000000108004500001c00010000401100000a000005c63364091388003500080000";
+
+const ICMP: &str =
+    "02000000000202000000000108004500001c00010000400100000a000005c63364090800000000000000";
+
+/// In each row a pattern, a frame, an offset, what stands there in frames that it holds for, and in frames
+/// that it does not hold for.
+const ROWS: &str = "src host 10.0.0.5; tcp; 26; 0a000005; 0a000004 0a000006\n\
+dst host 198.51.100.9; tcp; 30; c6336409; c6336408 c633640a\n\
+host 10.0.0.5; tcp; 26; 0a0000050a000006 0a0000060a000005; 0a0000060a000006\n\
+src net 10.0.0.4/31; tcp; 26; 0a000004 0a000005; 0a000003 0a000006\n\
+dst net 198.51.100.9/30; tcp; 30; c6336408 c633640b; c6336407 c633640c\n\
+net 10.0.0.0/8; tcp; 26; 0a000000 0affffff 0b0000000a000000; 09ffffff 0b000000 0b00000009ffffff\n\
+src net 10.0.0.5/0; tcp; 26; 00000000 ffffffff; \n\
+src port 1024-1025; tcp; 34; 0400 0401; 03ff 0402\n\
+dst port 53; tcp; 36; 0035; 0034 0036\n\
+port 80; tcp; 34; 00500051 00510050; 00510051 004f004f\n\
+port > 80; tcp; 34; 00510050 00500051 ffff0000; 00500050\n\
+port < 80; tcp; 34; 004f0050 0050004f ffff0000; 00500050\n\
+port >= 80; tcp; 34; 00500000 ffff0000; 004f004f\n\
+port <= 80; tcp; 34; ffff0050 0000ffff; 00510051\n\
+port > 65535; tcp; 34; ; ffffffff\n\
+port < 0; tcp; 34; ; 00000000\n\
+port 0-65535; tcp; 20; 0000; 0001\n\
+not port 0-65535; tcp; 20; 0001; 0000\n\
+src tcp port 5000; tcp; 34; 1388; 1387\n\
+src tcp port 5000; udp; 34; ; 1388\n\
+tcp port 53; tcp; 36; 0035; 0036\n\
+dst udp port 53; udp; 36; 0035; 0036\n\
+udp port 5000; udp; 34; 1388 13871388; 13871387\n\
+udp port 5000; tcp; 34; ; 1388\n\
+tcp; tcp; 23; 06; 05 07 11\n\
+udp; tcp; 23; 11; 10 12 06\n\
+icmp; tcp; 23; 01; 00 02\n\
+icmp type 8; icmp; 34; 08; 07 09\n\
+icmp type 255; icmp; 34; ff; fe\n\
+icmp type 8; udp; 34; ; 08\n\
+ip proto 0; tcp; 23; 00; 01\n\
+ip proto 255; tcp; 23; ff; fe\n\
+ip dscp 63; tcp; 15; fc ff; fb\n\
+ip dscp 0; tcp; 15; 00 03; 04\n\
+ip ttl 64; tcp; 22; 40; 3f 41\n\
+ip ttl > 64; tcp; 22; 41 ff; 40\n\
+ip ttl < 64; tcp; 22; 3f 00; 40\n\
+ip ttl >= 64; tcp; 22; 40 ff; 3f\n\
+ip ttl <= 64; tcp; 22; 40 00; 41\n\
+ip ttl > 255; tcp; 22; ; ff\n\
+ip ttl < 0; tcp; 22; ; 00\n\
+ip frag; tcp; 20; 2000 0001 1fff; 0000 4000\n\
+ip unfrag; tcp; 20; 0000 4000; 2000 0001 1fff\n\
+tcp opt syn; tcp; 47; 02 ff; fd\n\
+tcp opt ack; tcp; 47; 10 ff; ef\n\
+tcp opt fin; tcp; 47; 01 ff; fe\n\
+tcp opt rst; tcp; 47; 04 ff; fb\n\
+tcp opt fin; udp; 34; ; 1388";
+
+#[test]
+fn each_test_at_both_ends_of_its_span(rt: HostRuntime) {
+    for row in ROWS.lines() {
+        assert!(rt; is_told_apart(rt.alloc(), row) == Some(true));
+    }
+    assert!(rt; ROWS.lines().count() == 48);
+}
+
+#[test]
+fn texts_that_nest_as_deep_as_they_are_long(rt: HostRuntime) {
+    let alloc = rt.alloc();
+    let rows = [
+        ("!", "-", "", 1_048_575, false),
+        ("-&&", "-", "", 349_525, true),
+        ("(", "-", ")", 524_287, true),
+        ("(", "-", "&&-)", 209_715, true),
+        ("!-||(", "-", ")", 174_762, true),
+        ("tcp port 80 or (", "-", ")", 61_680, true),
+        ("!(!", "-", ")", 262_143, true),
+    ];
+    for (opening, inner, closing, times, wanted) in &rows {
+        assert!(rt; met_nested(alloc, opening, inner, closing, *times) == Some(*wanted));
+    }
+    let side = nested(alloc, "!", "-||(", "", 255).unwrap_or(String::new(alloc));
+    assert!(rt; met_nested(alloc, side.as_str(), "-", ")", 4_032) == Some(true));
+    let open = nested(alloc, "(", "", "", 1_048_576).unwrap_or(String::new(alloc));
+    assert!(rt;
+        matches!(
+            Pattern::parse(alloc, open.as_bytes()),
+            Err(PatternFault::Bad(1_048_576))
+        )
+    );
 }

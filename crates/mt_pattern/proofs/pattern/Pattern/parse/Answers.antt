@@ -1,33 +1,36 @@
-use Rattle.std.proofs.Common.{◌≡◌, ◌+◌, ◌<◌, Err, Ok, Some, None, length, drop, refl, sym, ap, subst, ◌∙◌, arith}
+use Rattle.std.proofs.Common.{◌≡◌, ◌<◌, Err, Some, None, length, drop, refl, sym, ap, subst, ◌∙◌, arith}
 use Rattle.mt_pattern.specs.Lexis.{next_place, token_len, tokens_of}
-use Rattle.mt_pattern.specs.Parser.{run, finish_of, step_of, ended, parse_of}
+use Rattle.mt_pattern.specs.Parser.{finish_of, step_of, ended, parse_of}
 use Rattle.mt_pattern.proofs.Tokens.{at_end, at_next, token_some}
+use Rattle.mt_pattern.proofs.Faults.{only_pattern, only_fault}
 use Rattle.mt_pattern.proofs.pattern.Pattern.parse.Goals as goal
 
 pub loop-place-init : goal.loop-place-init
 unfolding parse_of tokens_of
 loop-place-init c = (omega arith, (length c.args.text.now, omega arith, rw c.new-parser.ensures refl))
 
-pub returns-in-Ok-Some-clause-pattern : goal.returns-in-Ok-Some-clause-pattern
-returns-in-Ok-Some-clause-pattern c =
+pub returns-in-Ok-Some : goal.returns-in-Ok-Some
+returns-in-Ok-Some c =
     let text = c.args.text.now in
     let left = c.loop-place.invariant.1 in
     let here : next_place text c.loop-place.place ≡ length text = sym c.next_place-place.ensures.place ∙ c.if-place-text.true in
     let e = at_end left.0 text c.loop-place.place c.loop-place.parser (length text) (parse_of text) here left.2 in
     let read : finish_of c.loop-place.parser ≡ Some c.in-Ok-Some.pattern = sym c.in-Ok-Some.ensures ∙ c.in-Ok-Some.field-0-is in
-    sym e ∙ ap (λ found. ended found (length text)) read
+    let due = sym e ∙ ap (λ found. ended found (length text)) read in
+    record { pattern = only_pattern text c.in-Ok-Some.pattern due; fault = tt; read = due }
 
-pub returns-in-Ok-None-clause-fault : goal.returns-in-Ok-None-clause-fault
-returns-in-Ok-None-clause-fault c =
+pub returns-in-Ok-None : goal.returns-in-Ok-None
+returns-in-Ok-None c =
     let text = c.args.text.now in
     let left = c.loop-place.invariant.1 in
     let here : next_place text c.loop-place.place ≡ length text = sym c.next_place-place.ensures.place ∙ c.if-place-text.true in
     let e = at_end left.0 text c.loop-place.place c.loop-place.parser (length text) (parse_of text) here left.2 in
     let read : finish_of c.loop-place.parser ≡ None = sym c.in-Ok-None.ensures ∙ c.in-Ok-None.field-0-is in
-    (sym e ∙ ap (λ found. ended found (length text)) read) ∙ ap (λ end. Err end) (sym c.if-place-text.true)
+    let due = (sym e ∙ ap (λ found. ended found (length text)) read) ∙ ap (λ end. Err end) (sym c.if-place-text.true) in
+    record { pattern = tt; fault = only_fault text c.next_place-place.result due; read = due }
 
-pub returns-in-Ok-None-step-clause-fault : goal.returns-in-Ok-None-step-clause-fault
-returns-in-Ok-None-step-clause-fault c =
+pub returns-in-Ok-None-step : goal.returns-in-Ok-None-step
+returns-in-Ok-None-step c =
     let text = c.args.text.now in
     let left = c.loop-place.invariant.1 in
     let p_is = c.next_place-place.ensures.place in
@@ -36,7 +39,7 @@ returns-in-Ok-None-step-clause-fault c =
     let wrong : None ≡ step_of c.loop-place.parser c.kind_of.result c.token-word.result.now = sym c.in-Ok-None-step.field-0-is ∙ c.in-Ok-None-step.ensures in
     let t = at_next left.0 text c.loop-place.place c.next_place-place.result (length c.token-word.result.now) c.token-word.result.now c.kind_of.result None c.loop-place.parser (length text) (parse_of text)
     p_is below c.token-word.ensures.word c.kind_of.ensures c.token-word.ensures.length wrong left.1 left.2 in
-    sym t.2
+    record { pattern = tt; fault = only_fault text c.next_place-place.result (sym t.2); read = sym t.2 }
 
 pub loop-place-smaller : goal.loop-place-smaller
 loop-place-smaller c =
