@@ -9,3 +9,14 @@ pub mod Gaps
 pub mod Trees
 pub mod Printed
 pub mod Whole
+pub mod Clipping
+pub mod Entries
+pub mod Uses
+pub mod Shown
+pub mod Most
+pub mod Networks
+pub mod Ways
+pub mod Feeds
+pub mod Within
+pub mod Order
+pub mod Places

@@ -10,7 +10,7 @@ use crate::place::fault_in;
 use crate::tokens::tokens_of;
 use std::alloc::Global;
 
-fn read(alloc: Global, text: &[u8]) -> Result<Vec<Part>, ReadError>
+pub fn read(alloc: Global, text: &[u8]) -> Result<Vec<Part>, ReadError>
     ensures { Gives (λ v. v.items) result (parts_in text.now) }
 {
     let tokens = tokens_of(alloc, text)?;

@@ -1,0 +1,19 @@
+-- Scopes: the body of each class, and all that is outside classes.
+use Rattle.std.specs.Prelude.{ℕ, ◌+◌, true, false, if◌then◌else◌}
+use Rattle.mt_click.specs.declared.part.Part.{Part}
+use Rattle.mt_click.specs.declared.part.Part.TheVariants as parts
+use Rattle.mt_click.specs.declared.scope.Scope.{Scope}
+
+-- the scope behind a part
+abbrev pub behind : Scope → Part → Scope
+behind s (parts.Class w) = record { inside = true; known = s.known }
+behind s parts.Close = record { inside = false; known = s.known + 1 }
+behind s _ = s
+
+-- the number of a scope: 0 outside classes, and from 1 on the bodies
+abbrev pub scope_number : Scope → ℕ
+scope_number s = if s.inside then s.known + 1 else 0
+
+-- the scope at the beginning
+abbrev pub outside : Scope
+outside = record { inside = false; known = 0 }

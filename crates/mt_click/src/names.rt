@@ -1,0 +1,289 @@
+//! What is declared in a configuration: classes, names, and the ports that bodies name.
+ghost use Rattle.std.specs.Prelude.{◌≡◌, ◌++◌, ◌^◌, ◌<◌, map, IfOk, OnOk, []};
+ghost use Rattle.mt_click.specs.Scopes.{scope_number, outside};
+ghost use Rattle.mt_click.specs.Names.{entry, class_at, classes_in, class_of, waiting_behind, declared_in, declared_at, names_from, number_of, is_joined, port_at, input_at, output_at, ports_at, ports_from};
+ghost use Rattle.mt_click.specs.Tables.{IsTable};
+
+use crate::part::{End, Item, Part, Port, Word};
+use crate::scope::{Scope, number_of, scope_behind};
+use crate::table::{Entry, Table};
+use crate::words::word_bytes;
+use std::alloc::{AllocError, Global};
+
+fn push_class(entries: &mut Vec<Entry>, part: Part) -> Result<(), AllocError>
+    ensures { OnOk result (entries.new.items ≡ entries.old.items ++ class_at part) }
+{
+    match part {
+        Part::Class(word) => {
+            entries.push(Entry {
+                scope: 0,
+                number: 0,
+                word,
+                class: None,
+            })?;
+            Ok(())
+        }
+        _ => Ok(()),
+    }
+}
+
+/// The classes, in the order of their declarations.
+#[tactic(auto, unfolding(crate::specs::Names::classes_in))]
+pub fn classes_of(alloc: Global, parts: &[Part]) -> Result<Vec<Entry>, AllocError>
+    ensures { IfOk result (λ v. v.items ≡ classes_in parts.now) }
+{
+    let mut entries = Vec::new(alloc);
+    let mut rest = parts;
+    while let [part, after @ ..] = rest {
+        push_class(&mut entries, *part)?;
+        rest = after;
+    }
+    Ok(entries)
+}
+
+/// The class of a name, among those declared before.
+#[tactic(auto, unfolding(crate::specs::Names::class_of))]
+pub fn class_in(classes: &Table<'_>, scope: Scope, name: &[u8]) -> Option<usize>
+    requires { IsTable classes.now }
+    ensures { result ≡ class_of classes.now.text.now classes.now.entries.items scope name.now }
+{
+    match classes.find(0, 0, name) {
+        Some(class) => {
+            if class < scope.known {
+                Some(class)
+            } else {
+                None
+            }
+        }
+        None => None,
+    }
+}
+
+/// Keeps the names that wait for the use behind their `::`.
+pub fn wait(waiting: &mut Vec<Word>, part: Part) -> Result<(), AllocError>
+    ensures { OnOk result (waiting.new.items ≡ waiting_behind waiting.old.items part) }
+{
+    match part {
+        Part::Declared(word) => {
+            waiting.push(word)?;
+            Ok(())
+        }
+        _ => {
+            waiting.clear();
+            Ok(())
+        }
+    }
+}
+
+fn push_group(
+    entries: &mut Vec<Entry>,
+    scope: Scope,
+    class: Option<usize>,
+    waiting: &[Word],
+) -> Result<(), AllocError>
+    requires { scope.known < 2 ^ 63 }
+    ensures { OnOk result (entries.new.items ≡ entries.old.items ++ map (λ w. entry (scope_number scope) 0 w class) waiting.now) }
+{
+    let scope = number_of(scope);
+    let mut rest = waiting;
+    while let [word, after @ ..] = rest {
+        entries.push(Entry {
+            scope,
+            number: 0,
+            word: *word,
+            class,
+        })?;
+        rest = after;
+    }
+    Ok(())
+}
+
+#[tactic(auto, unfolding(crate::specs::Names::declared_in))]
+fn push_declared(
+    entries: &mut Vec<Entry>,
+    classes: &Table<'_>,
+    scope: Scope,
+    item: Item,
+) -> Result<(), AllocError>
+    requires table { IsTable classes.now }
+    requires bound { scope.known < 2 ^ 63 }
+    ensures { OnOk result (entries.new.items ≡ entries.old.items ++ declared_in classes.now.text.now classes.now.entries.items scope item) }
+{
+    match item {
+        Item::Declared(word, made) => {
+            let class = class_in(classes, scope, word_bytes(classes.text, made.class));
+            entries.push(Entry {
+                scope: number_of(scope),
+                number: 0,
+                word,
+                class,
+            })?;
+            Ok(())
+        }
+        _ => Ok(()),
+    }
+}
+
+#[tactic(auto, unfolding(crate::specs::Names::declared_at))]
+fn push_names(
+    entries: &mut Vec<Entry>,
+    classes: &Table<'_>,
+    scope: Scope,
+    waiting: &[Word],
+    part: Part,
+) -> Result<(), AllocError>
+    requires table { IsTable classes.now }
+    requires bound { scope.known < 2 ^ 63 }
+    ensures { OnOk result (entries.new.items ≡ entries.old.items ++ declared_at classes.now.text.now classes.now.entries.items scope waiting.now part) }
+{
+    match part {
+        Part::Made(made) => {
+            let class = class_in(classes, scope, word_bytes(classes.text, made.class));
+            push_group(entries, scope, class, waiting)
+        }
+        Part::First(end) => push_declared(entries, classes, scope, end.item),
+        Part::Next(_, end) => push_declared(entries, classes, scope, end.item),
+        _ => Ok(()),
+    }
+}
+
+/// The names that are declared, in the order of their declarations.
+#[tactic(auto, unfolding(crate::specs::Names::names_from))]
+pub fn names_of(
+    alloc: Global,
+    classes: &Table<'_>,
+    parts: &[Part],
+) -> Result<Vec<Entry>, AllocError>
+    requires { IsTable classes.now }
+    ensures { IfOk result (λ v. v.items ≡ names_from classes.now.text.now classes.now.entries.items outside [] parts.now) }
+{
+    let mut entries = Vec::new(alloc);
+    let mut waiting = Vec::new(alloc);
+    let mut scope = Scope {
+        inside: false,
+        known: 0,
+    };
+    let mut rest = parts;
+    while let [part, after @ ..] = rest {
+        push_names(&mut entries, classes, scope, &waiting, *part)?;
+        wait(&mut waiting, *part)?;
+        scope = scope_behind(scope, *part);
+        rest = after;
+    }
+    Ok(entries)
+}
+
+/// The number of a port; one that is left out is 0.
+pub fn port_number(port: Option<Port>) -> u32
+    ensures { result ≡ number_of port }
+{
+    match port {
+        Some(port) => port.number,
+        None => 0,
+    }
+}
+
+/// Whether a `->` stands in front of the parts.
+pub fn joins(parts: &[Part]) -> bool
+    ensures { result ≡ is_joined parts.now }
+{
+    match parts {
+        [Part::Next(_, _), ..] => true,
+        _ => false,
+    }
+}
+
+#[tactic(auto, unfolding(crate::specs::Names::port_at))]
+fn push_port(
+    entries: &mut Vec<Entry>,
+    text: &[u8],
+    scope: Scope,
+    name: &[u8],
+    port: Option<Port>,
+    item: Item,
+) -> Result<(), AllocError>
+    ensures { OnOk result (entries.new.items ≡ entries.old.items ++ port_at text.now scope name.now port item) }
+{
+    match item {
+        Item::Name(word) => {
+            if scope.inside && word_bytes(text, word) == name {
+                entries.push(Entry {
+                    scope: scope.known,
+                    number: port_number(port),
+                    word,
+                    class: None,
+                })?;
+            }
+            Ok(())
+        }
+        _ => Ok(()),
+    }
+}
+
+#[tactic(auto, unfolding(crate::specs::Names::input_at))]
+fn push_input(
+    entries: &mut Vec<Entry>,
+    text: &[u8],
+    scope: Scope,
+    joined: bool,
+    end: End,
+) -> Result<(), AllocError>
+    ensures { OnOk result (entries.new.items ≡ entries.old.items ++ input_at text.now scope joined end) }
+{
+    if joined {
+        push_port(entries, text, scope, b"input", end.output, end.item)
+    } else {
+        Ok(())
+    }
+}
+
+#[tactic(auto, unfolding(crate::specs::Names::output_at))]
+fn push_output(
+    entries: &mut Vec<Entry>,
+    text: &[u8],
+    scope: Scope,
+    end: End,
+) -> Result<(), AllocError>
+    ensures { OnOk result (entries.new.items ≡ entries.old.items ++ output_at text.now scope end) }
+{
+    push_port(entries, text, scope, b"output", end.input, end.item)
+}
+
+#[tactic(auto, unfolding(crate::specs::Names::ports_at))]
+fn push_ports(
+    entries: &mut Vec<Entry>,
+    text: &[u8],
+    scope: Scope,
+    joined: bool,
+    part: Part,
+) -> Result<(), AllocError>
+    ensures { OnOk result (entries.new.items ≡ entries.old.items ++ ports_at text.now scope joined part) }
+{
+    match part {
+        Part::First(end) => push_input(entries, text, scope, joined, end),
+        Part::Next(_, end) => {
+            push_output(entries, text, scope, end)?;
+            push_input(entries, text, scope, joined, end)
+        }
+        _ => Ok(()),
+    }
+}
+
+/// The ports that the bodies of classes name.
+#[tactic(auto, unfolding(crate::specs::Names::ports_from))]
+pub fn ports_of(alloc: Global, text: &[u8], parts: &[Part]) -> Result<Vec<Entry>, AllocError>
+    ensures { IfOk result (λ v. v.items ≡ ports_from text.now outside parts.now) }
+{
+    let mut entries = Vec::new(alloc);
+    let mut scope = Scope {
+        inside: false,
+        known: 0,
+    };
+    let mut rest = parts;
+    while let [part, after @ ..] = rest {
+        push_ports(&mut entries, text, scope, joins(after), *part)?;
+        scope = scope_behind(scope, *part);
+        rest = after;
+    }
+    Ok(entries)
+}
