@@ -1,3 +1,12 @@
-pub mod Forms
-mod Spelled
+pub mod Each
+pub mod Lines
+pub mod Comments
+pub mod Digits
+pub mod Uses
+pub mod Middle
+pub mod Straight
+pub mod Branches
+pub mod Acceptance
+pub mod Spelled
+mod Built
 mod Rows

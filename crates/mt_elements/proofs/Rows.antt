@@ -1,17 +1,67 @@
--- The definitions on texts that were read by hand.
-use Rattle.std.proofs.Common.{◌≡◌, Some, None, refl}
+-- The definitions on arguments and texts that were read by hand.
+use Rattle.std.proofs.Common.{◌≡◌, [], ◌∷◌, Some, None, true, false, refl}
 use Rattle.std.specs.Prelude.{codes}
-use Rattle.mt_elements.specs.Form.{name_at, ether_type_at, spelled_at, pieces_of}
-use Rattle.mt_elements.specs.Shape.{straight_chain, classified_chain, is_reserved, is_one_name, are_classes, ether_type_of, straight_from, classified_from, straight_in, classified_in, chain_of}
+use Rattle.mt_pattern.specs.Number.{decimal_value, hexadecimal_value, decimal_of, hexadecimal_of, number_of, number_up_to, decimal_up_to, address_of}
+use Rattle.mt_click.specs.Comment.{comment_at, hidden}
+use Rattle.mt_click.specs.Closing.{closing}
+use Rattle.mt_click.specs.Piece.{word_at, digits_at, parameter_at, arguments_at, pair_at, mark_of, mark_at, plain_at, piece_at}
+use Rattle.mt_click.specs.Tokens.{tokens_from}
+use Rattle.mt_click.specs.Arguments.{tidy_after, parts_of, separated}
+use Rattle.mt_packet.specs.declared.layer.Layer.TheVariants.{Frame}
+use Rattle.mt_elements.specs.declared.kind.Clause.TheVariants.{EthType, EthDst, ArpOp}
+use Rattle.mt_elements.specs.declared.kind.End.TheVariants.{Dst}
+use Rattle.mt_elements.specs.declared.kind.Kind.TheVariants.{Null, Paint, Strip, CheckIPHeader, EtherEncap, DecIPTTL, StoreIPAddress}
+use Rattle.mt_elements.specs.Arguments.{hex_value, hex_number, is_identifier, is_keyword, mac_of, end_of}
+use Rattle.mt_elements.specs.Patterns.{each, clause_of, may_stand, together, pattern_of}
+use Rattle.mt_elements.specs.Classes.{plain, paint_of, store_of, plain_kind, frame_kind, datagram_kind, stateless_kind}
+use Rattle.mt_elements.specs.Reading as reading
+use Rattle.mt_elements.specs.Shape.{line_fits, line_chain, fitting_line, device_named, device_of, line_of, straight_of, straight_in, chain_in, chain_of}
 
-two_devices : chain_of (codes "FromDevice(a) -> ToDevice(b);") ≡ Some (straight_chain (codes "a") (codes "b"))
-unfolding chain_of straight_in straight_from pieces_of name_at spelled_at
-two_devices = refl
+a_mac : mac_of (codes "02:00:00:00:00:0a") ≡ Some 2199023255562
+unfolding mac_of hex_number hex_value
+a_mac = refl
 
-ipv4 : chain_of (codes "FromDevice(a)->c::Classifier(12/0800,-);c[0]->ToDevice(b);c[1]->Discard;") ≡ Some (classified_chain (codes "a") 2048 (codes "b"))
-unfolding chain_of straight_in straight_from classified_in classified_from is_reserved is_one_name are_classes ether_type_of pieces_of name_at ether_type_at spelled_at
-ipv4 = refl
+joined_by_dashes : mac_of (codes "02-00-00-00-00-0a") ≡ None
+unfolding mac_of
+joined_by_dashes = refl
 
-no_end : chain_of (codes "FromDevice(a) -> ToDevice(b)") ≡ None
-unfolding chain_of straight_in classified_in pieces_of name_at ether_type_at spelled_at
-no_end = refl
+arp_requests : pattern_of (codes "12/0806 20/0001 0/020000000002") ≡ Some (EthType 2054 ∷ ArpOp 1 ∷ EthDst 2199023255554 ∷ [])
+unfolding pattern_of each clause_of hex_number hex_value may_stand together
+arp_requests = refl
+
+operations_alone : pattern_of (codes "20/0001") ≡ None
+unfolding pattern_of each clause_of hex_number hex_value may_stand together
+operations_alone = refl
+
+a_keyword : is_keyword (codes "COUNT_CALL 12 x") ≡ true
+unfolding is_keyword
+a_keyword = refl
+
+no_keyword : is_keyword (codes "Rate") ≡ false
+unfolding is_keyword
+no_keyword = refl
+
+greatest_paint : stateless_kind (codes "Paint") (codes "0xFF" ∷ []) ≡ Some (Paint 255)
+unfolding stateless_kind plain_kind paint_of number_up_to number_of hexadecimal_of hexadecimal_value
+greatest_paint = refl
+
+too_great_a_paint : stateless_kind (codes "Paint") (codes "256" ∷ []) ≡ None
+unfolding stateless_kind plain_kind frame_kind datagram_kind paint_of number_up_to number_of decimal_of decimal_value
+too_great_a_paint = refl
+
+stored : stateless_kind (codes "StoreIPAddress") (codes "198.51.100.10" ∷ codes "dst" ∷ []) ≡ Some (StoreIPAddress 3325256714 Dst)
+unfolding stateless_kind plain_kind frame_kind datagram_kind store_of address_of decimal_up_to decimal_of decimal_value end_of
+stored = refl
+
+-- a packet that was not checked has no time to live
+not_checked : line_fits Frame (Strip ∷ DecIPTTL ∷ []) ≡ false
+unfolding line_fits
+not_checked = refl
+
+checked_first : line_fits Frame (Strip ∷ CheckIPHeader ∷ DecIPTTL ∷ EtherEncap 2048 10 11 ∷ Strip ∷ DecIPTTL ∷ []) ≡ true
+unfolding line_fits
+checked_first = refl
+
+one_element : chain_of (codes "FromDevice(a)->Null->ToDevice(b);") ≡ Some (line_chain (codes "a") (Null ∷ []) (codes "b"))
+unfolding chain_of chain_in straight_in straight_of line_of fitting_line line_fits device_of device_named each stateless_kind plain_kind plain is_identifier reading.sign_at reading.is_end reading.name_at reading.arguments_at reading.use_at reading.uses_from reading.begins_comment reading.has_comment comment_at hidden closing word_at digits_at parameter_at arguments_at pair_at mark_of mark_at plain_at piece_at tokens_from tidy_after parts_of separated
+one_element = refl

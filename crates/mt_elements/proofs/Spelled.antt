@@ -1,180 +1,293 @@
 -- What is written is read.
-use Rattle.std.proofs.Common.{◌≡◌, ℕ, suc, ◌+◌, Bool, true, false, cond, not, ◌&&◌, nat_eq, nat_lt, List, [], ◌∷◌, ◌++◌, length, take, drop, refl, sym, ◌∙◌, ap, subst, arith}
-use Rattle.std.specs.Prelude.{Option, Some, None, slice_index, option_map, option_and_then, if◌then◌else◌}
-use Rattle.std.specs.List.{list_all, position_or_len}
-use Rattle.std.proofs.lemmas.List.{take_at, drop_at, append-nil}
+use Rattle.std.proofs.Common.{◌≡◌, ℕ, zero, suc, ◌+◌, ◌-◌, ◌≤◌, Bool, true, false, not, List, [], ◌∷◌, ◌++◌, length, take, refl, sym, ap, ◌∙◌, arith, length-append}
+use Rattle.std.specs.Prelude.{Option, Some, None, option_map, is_some, if◌then◌else◌, ◌&&◌, ◌==◌, slice_get, codes}
 use Rattle.std.specs.Str.{bytes_eq}
 use Rattle.std.proofs.lemmas.Bool.Decides.{nat_tests}
 use Rattle.std.proofs.lemmas.Slice.Eq.{bytes_eq-Decides}
-use Rattle.mt_elements.specs.declared.form.Item.{Item}
-use Rattle.mt_elements.specs.declared.form.Item.TheVariants.{Name, EtherType, Open, Close, OpenBracket, CloseBracket, Comma, Dash, Arrow, Colons, Semicolon, Zero, One}
-use Rattle.mt_elements.specs.Lexis.{is_space, is_name_start, is_name_byte, is_hex_digit, after_space, name_len_of}
-use Rattle.mt_elements.specs.Form.{name_at, ether_type_at, spelled_at, token_len_of, with_piece, pieces_of}
-use Rattle.mt_elements.specs.Shape.{straight, classified, classified_chain, is_reserved, is_one_name, are_classes, ether_type_of, straight_from, classified_from, straight_in, classified_in, first_of_two, chain_of}
-use Rattle.mt_elements.specs.Spelling.{IsSpace, IsName, IsEtherType, IsWritten, MayFollow, IsToken, Spells, StraightIsRead, ClassifiedIsRead}
-
--- ---- tests on lists
-
-first_passes : (a b : Bool) → (a && b) ≡ true → a ≡ true
-first_passes true b h = refl
-first_passes false b h = h
-
-others_pass : (a b : Bool) → (a && b) ≡ true → b ≡ true
-others_pass true b h = h
-others_pass false b h = cc
-
--- a run of bytes that pass, and then one that does not
-run_len : (p : ℕ → Bool) (run rest : List ℕ) → list_all p run ≡ true → p (slice_index rest 0) ≡ false → position_or_len (λ byte. not (p byte)) (run ++ rest) ≡ length run
-run_len p [] [] all stop = refl
-run_len p [] (byte ∷ rest) all stop = ap (λ b. cond (not (not b)) (1 + position_or_len (λ x. not (p x)) rest) 0) stop
-run_len p (byte ∷ run) rest all stop =
-    let here : p byte ≡ true = first_passes (p byte) (list_all p run) all in
-    ap (λ b. cond (not (not b)) (1 + position_or_len (λ x. not (p x)) (run ++ rest)) 0) here
-    ∙ omega (arith, run_len p run rest (others_pass (p byte) (list_all p run) all) stop)
-
-after_run : (p : ℕ → Bool) (run rest : List ℕ) → list_all p run ≡ true → p (slice_index rest 0) ≡ false → drop (position_or_len (λ byte. not (p byte)) (run ++ rest)) (run ++ rest) ≡ rest
-after_run p run rest all stop = ap (λ n. drop n (run ++ rest)) (run_len p run rest all stop) ∙ drop_at run rest (length run) refl
+use Rattle.std.proofs.lemmas.List.{take_at}
+use Rattle.mt_pattern.specs.Number.{◌>>=◌}
+use Rattle.mt_click.specs.Tokens.{tokens_in}
+use Rattle.mt_click.specs.declared.token.Kind.{Kind}
+use Rattle.mt_click.specs.declared.token.Kind.TheVariants as kinds
+use Rattle.mt_click.specs.declared.token.Token.{Token}
+use Rattle.mt_click.specs.declared.part.Word.{Word}
+use Rattle.mt_click.specs.declared.part.Use.{Use}
+use Rattle.mt_packet.specs.declared.layer.Layer.TheVariants.{Frame}
+use Rattle.mt_elements.specs.declared.kind.Clause.{Clause}
+use Rattle.mt_elements.specs.declared.kind.Kind.{Kind as Element}
+use Rattle.mt_elements.specs.declared.reading.Sign.{Sign}
+use Rattle.mt_elements.specs.declared.reading.Sign.TheVariants as signs
+use Rattle.mt_elements.specs.declared.reading.Branching.{Branching}
+use Rattle.mt_elements.specs.Parts.{Parts}
+use Rattle.mt_elements.specs.Patterns.{each, patterns_of}
+use Rattle.mt_elements.specs.Reading.{word, is_sign, sign_at, is_end, name_at, arguments_at, use_at, uses_from, digit_at, branch_at, entry_at, declared_at, closed_at, branching_in}
+use Rattle.mt_elements.specs.Shape.{text_of, arguments_of, is_class, device_named, device_of, kind_of, line_fits, line_kinds, line_chain, fitting_line, line_of, straight_of, straight_in, two_of, two_patterns, is_reserved, is_one_name, is_discard, has_names, classified_chain, classified_of, classified_in, first_of_two, chain_in, chain_of}
+use Rattle.mt_elements.specs.Spelling.{IsSign, IsUse, plain, told, IsEnd, ended, IsLine, final, onward, IsBranch, branch, IsBranching, NamesDevice, AreKinds, no_more, one_more, StraightIsRead, IsClassified, ClassifiedIsRead}
+use Rattle.mt_elements.proofs.Each.{each_one}
 
 -- ---- one token
 
-no_space_name : (byte : ℕ) → is_name_start byte ≡ true → is_space byte ≡ false
-no_space_name byte start = grind (arith, nat_tests)
+step : {A B : Type 0} (o : Option A) (x : A) (f : A → Option B) → o ≡ Some x → (o >>= f) ≡ f x
+step o x f is = ap (λ p. p >>= f) is
 
-first_of : (xs ys : List ℕ) → is_name_start (slice_index xs 0) ≡ true → slice_index (xs ++ ys) 0 ≡ slice_index xs 0
-first_of [] ys start = cc
-first_of (x ∷ xs) ys start = refl
+sign_read : (sign : Sign) (t : Token) (ts : List Token) → IsSign sign t → sign_at sign (t ∷ ts) ≡ Some ts
+unfolding sign_at
+sign_read sign t ts is = ap (λ b. if b then Some ts else None) is
 
--- no token begins with white space
-begins : (item : Item) (token rest : List ℕ) → IsWritten item token → is_space (slice_index (token ++ rest) 0) ≡ false
-begins Name token rest w = ap is_space (first_of token rest w.start) ∙ no_space_name (slice_index token 0) w.start
-begins EtherType token rest w = ap (λ (t : List ℕ). is_space (slice_index (t ++ rest) 0)) w.spelled
-begins Open token rest w = ap (λ (t : List ℕ). is_space (slice_index (t ++ rest) 0)) w
-begins Close token rest w = ap (λ (t : List ℕ). is_space (slice_index (t ++ rest) 0)) w
-begins OpenBracket token rest w = ap (λ (t : List ℕ). is_space (slice_index (t ++ rest) 0)) w
-begins CloseBracket token rest w = ap (λ (t : List ℕ). is_space (slice_index (t ++ rest) 0)) w
-begins Comma token rest w = ap (λ (t : List ℕ). is_space (slice_index (t ++ rest) 0)) w
-begins Dash token rest w = ap (λ (t : List ℕ). is_space (slice_index (t ++ rest) 0)) w
-begins Arrow token rest w = ap (λ (t : List ℕ). is_space (slice_index (t ++ rest) 0)) w
-begins Colons token rest w = ap (λ (t : List ℕ). is_space (slice_index (t ++ rest) 0)) w
-begins Semicolon token rest w = ap (λ (t : List ℕ). is_space (slice_index (t ++ rest) 0)) w
-begins Zero token rest w = ap (λ (t : List ℕ). is_space (slice_index (t ++ rest) 0)) w
-begins One token rest w = ap (λ (t : List ℕ). is_space (slice_index (t ++ rest) 0)) w
+sign_missed : (sign : Sign) (t : Token) (ts : List Token) → is_sign sign t.kind ≡ false → sign_at sign (t ∷ ts) ≡ None
+unfolding sign_at
+sign_missed sign t ts is = ap (λ b. if b then Some ts else None) is
 
-not_zero : (n : ℕ) → nat_eq (suc n) 0 ≡ false
-not_zero n = grind (arith, nat_tests)
-
-name_long : (token rest : List ℕ) → IsName token → is_name_byte (slice_index rest 0) ≡ false → name_at (token ++ rest) ≡ Some (length token)
+name_read : (t : Token) (ts : List Token) → t.kind ≡ kinds.Name → name_at (t ∷ ts) ≡ Some (word t, ts)
 unfolding name_at
-name_long [] rest w ends = cc (w.start)
-name_long (byte ∷ token) rest w ends =
-    let long : name_len_of ((byte ∷ token) ++ rest) ≡ length (byte ∷ token) =
-    ap (λ b. if b then position_or_len (λ x. not (is_name_byte x)) ((byte ∷ token) ++ rest) else 0) w.start ∙ run_len is_name_byte (byte ∷ token) rest w.bytes ends in
-    ap (λ n. if nat_eq n 0 then None else Some n) long ∙ ap (λ b. if b then None else Some (suc (length token))) (not_zero (length token))
+name_read t ts is = ap (λ (k : Kind). elim k as (λ _. Option (Word × List Token)) [ kinds.Name ↦ Some (word t, ts) | _ ↦ None ]) is
 
-seven : (n : ℕ) → nat_lt (suc (suc (suc (suc (suc (suc (suc n))))))) 7 ≡ false
-seven n = grind (arith, nat_tests)
+not_arguments : {A : Type 0} (sign : Sign) (k : Kind) (there absent : A) → is_sign sign k ≡ true → elim k as (λ _. A) [ kinds.Arguments ↦ there | _ ↦ absent ] ≡ absent
+not_arguments signs.Arrow kinds.Arguments there absent is = cc
+not_arguments signs.Colons kinds.Arguments there absent is = cc
+not_arguments signs.Semicolon kinds.Arguments there absent is = cc
+not_arguments signs.LeftBracket kinds.Arguments there absent is = cc
+not_arguments signs.RightBracket kinds.Arguments there absent is = cc
+not_arguments signs.Finish kinds.Arguments there absent is = cc
+not_arguments sign k there absent is = refl
 
--- the tests of the digits, from the left and from the right
-all_digits : (a b c d : Bool) → (a && (b && (c && (d && true)))) ≡ true → (true && a && b && c && d) ≡ true
-all_digits true true true true h = refl
-all_digits true true true false h = cc
-all_digits true true false d h = cc
-all_digits true false c d h = cc
-all_digits false b c d h = cc
+no_arguments : (sign : Sign) (t : Token) (ts : List Token) → IsSign sign t → arguments_at (t ∷ ts) ≡ (None, t ∷ ts)
+unfolding arguments_at
+no_arguments sign t ts is = not_arguments sign t.kind (Some (word t), ts) (None, t ∷ ts) is
 
-ether_type_long : (token rest : List ℕ) → IsEtherType token → ether_type_at (token ++ rest) ≡ Some (length token)
-unfolding ether_type_at
-ether_type_long token rest w = subst (λ (t : List ℕ). ether_type_at (t ++ rest) ≡ Some (length t)) (sym w.spelled)
-    (ap (λ b. if b then None else (if true && is_hex_digit w.first && is_hex_digit w.second && is_hex_digit w.third && is_hex_digit w.fourth then Some 7 else None)) (seven (length rest))
-    ∙ ap (λ b. if b then Some 7 else None) (all_digits (is_hex_digit w.first) (is_hex_digit w.second) (is_hex_digit w.third) (is_hex_digit w.fourth) w.digits))
+arguments_read : (t : Token) (ts : List Token) → t.kind ≡ kinds.Arguments → arguments_at (t ∷ ts) ≡ (Some (word t), ts)
+unfolding arguments_at
+arguments_read t ts is = ap (λ (k : Kind). elim k as (λ _. Option Word × List Token) [ kinds.Arguments ↦ (Some (word t), ts) | _ ↦ (None, t ∷ ts) ]) is
 
-token_long : (item : Item) (token rest : List ℕ) → IsWritten item token → MayFollow item rest → token_len_of item (token ++ rest) ≡ Some (length token)
-unfolding spelled_at
-token_long Name token rest w ends = name_long token rest w ends
-token_long EtherType token rest w ends = ether_type_long token rest w
-token_long Open token rest w ends = subst (λ (t : List ℕ). token_len_of Open (t ++ rest) ≡ Some (length t)) (sym w) refl
-token_long Close token rest w ends = subst (λ (t : List ℕ). token_len_of Close (t ++ rest) ≡ Some (length t)) (sym w) refl
-token_long OpenBracket token rest w ends = subst (λ (t : List ℕ). token_len_of OpenBracket (t ++ rest) ≡ Some (length t)) (sym w) refl
-token_long CloseBracket token rest w ends = subst (λ (t : List ℕ). token_len_of CloseBracket (t ++ rest) ≡ Some (length t)) (sym w) refl
-token_long Comma token rest w ends = subst (λ (t : List ℕ). token_len_of Comma (t ++ rest) ≡ Some (length t)) (sym w) refl
-token_long Dash token rest w ends = subst (λ (t : List ℕ). token_len_of Dash (t ++ rest) ≡ Some (length t)) (sym w) refl
-token_long Arrow token rest w ends = subst (λ (t : List ℕ). token_len_of Arrow (t ++ rest) ≡ Some (length t)) (sym w) refl
-token_long Colons token rest w ends = subst (λ (t : List ℕ). token_len_of Colons (t ++ rest) ≡ Some (length t)) (sym w) refl
-token_long Semicolon token rest w ends = subst (λ (t : List ℕ). token_len_of Semicolon (t ++ rest) ≡ Some (length t)) (sym w) refl
-token_long Zero token rest w ends = subst (λ (t : List ℕ). token_len_of Zero (t ++ rest) ≡ Some (length t)) (sym w) refl
-token_long One token rest w ends = subst (λ (t : List ℕ). token_len_of One (t ++ rest) ≡ Some (length t)) (sym w) refl
+-- ---- uses
 
--- a written token is read, and the rest of the form in the rest of the text
-token_read : (item : Item) (form : List Item) (kept more : List (List ℕ)) (text rest : List ℕ) (t : IsToken item kept more text rest)
-    → pieces_of (item ∷ form) text ≡ option_map (with_piece item t.token) (pieces_of form rest)
-unfolding pieces_of
-token_read item form kept more text rest t =
-    let here : after_space text ≡ t.token ++ rest = ap after_space t.text_is ∙ after_run is_space t.space (t.token ++ rest) t.only_space (begins item t.token rest t.written) in
-    ap (λ (h : List ℕ). option_and_then (λ n. option_map (with_piece item (take n h)) (pieces_of form (drop n h))) (token_len_of item h)) here
-    ∙ ap (option_and_then (λ n. option_map (with_piece item (take n (t.token ++ rest))) (pieces_of form (drop n (t.token ++ rest))))) (token_long item t.token rest t.written t.ends)
-    ∙ ap (λ (x : List ℕ). option_map (with_piece item x) (pieces_of form (drop (length t.token) (t.token ++ rest)))) (take_at t.token rest (length t.token) refl)
-    ∙ ap (λ (x : List ℕ). option_map (with_piece item t.token) (pieces_of form x)) (drop_at t.token rest (length t.token) refl)
+abbrev pub from_parts : Word → Option Word × List Token → Option (Use × List Token)
+from_parts class parts = Some (record { class = class; arguments = parts.0 }, parts.1)
 
-space_read : (text : List ℕ) → IsSpace text → pieces_of [] text ≡ Some []
-unfolding pieces_of
-space_read text all =
-    let none : after_space text ≡ [] = subst (λ (x : List ℕ). after_space x ≡ []) (append-nil text) (after_run is_space text [] all refl) in
-    ap (λ (x : List ℕ). if nat_eq (length x) 0 then Some [] else None) none
+-- a use is read where a sign stands behind it
+use_read : (made : Use) (front : List Token) (sign : Sign) (t : Token) (ts : List Token) → IsUse made front → IsSign sign t → use_at (front ++ t ∷ ts) ≡ Some (made, t ∷ ts)
+unfolding use_at
+use_read made front sign t ts (plain name named) is =
+    step (name_at (name ∷ t ∷ ts)) (word name, t ∷ ts) (λ x. from_parts x.0 (arguments_at x.1)) (name_read name (t ∷ ts) named) ∙ ap (from_parts (word name)) (no_arguments sign t ts is)
+use_read made front sign t ts (told name arguments named told_is) is =
+    step (name_at (name ∷ arguments ∷ t ∷ ts)) (word name, arguments ∷ t ∷ ts) (λ x. from_parts x.0 (arguments_at x.1)) (name_read name (arguments ∷ t ∷ ts) named) ∙ ap (from_parts (word name)) (arguments_read arguments (t ∷ ts) told_is)
 
--- a text of a form is read as its pieces
-pub spelled_read : (form : List Item) (kept : List (List ℕ)) (text : List ℕ) → Spells form kept text → pieces_of form text ≡ Some kept
-spelled_read [] kept text s = space_read text s.1 ∙ ap Some (sym s.0)
-spelled_read (item ∷ form) kept text s =
-    token_read item form kept s.1 text s.0 s.2
-    ∙ ap (option_map (with_piece item s.2.token)) (spelled_read form s.1 s.0 s.3)
-    ∙ ap Some (sym s.2.kept_is)
+end_read : (rest : List Token) → IsEnd rest → is_end rest ≡ true
+unfolding is_end
+end_read rest (ended semicolon finish first second) =
+    ap (λ (o : Option (List Token)). is_some (o >>= sign_at signs.Finish)) (sign_read signs.Semicolon semicolon (finish ∷ []) first) ∙ ap (λ (o : Option (List Token)). is_some o) (sign_read signs.Finish finish [] second)
 
--- ---- the two shapes
+no_semicolon : (k : Kind) → is_sign signs.Arrow k ≡ true → is_sign signs.Semicolon k ≡ false
+no_semicolon kinds.Semicolon is = cc
+no_semicolon k is = refl
 
-pub straight_read : StraightIsRead
-unfolding chain_of straight_in straight_from
-straight_read device out text spelled =
-    ap (λ (o : Option (List (List ℕ))). first_of_two (option_and_then straight_from o) (classified_in text)) (spelled_read straight _ text spelled)
+arrow_goes_on : (t : Token) (ts : List Token) → IsSign signs.Arrow t → is_end (t ∷ ts) ≡ false
+unfolding is_end
+arrow_goes_on t ts is = ap (λ (o : Option (List Token)). is_some (o >>= sign_at signs.Finish)) (sign_missed signs.Semicolon t ts (no_semicolon t.kind is))
 
--- `::` is no `(`
-no_open : (form : List Item) (kept more : List (List ℕ)) (text rest : List ℕ) → IsToken Colons kept more text rest → pieces_of (Open ∷ form) text ≡ None
-unfolding pieces_of spelled_at
-no_open form kept more text rest t =
-    let here : after_space text ≡ t.token ++ rest = ap after_space t.text_is ∙ after_run is_space t.space (t.token ++ rest) t.only_space (begins Colons t.token rest t.written) in
-    let colons : after_space text ≡ 58 ∷ 58 ∷ rest = here ∙ ap (λ (x : List ℕ). x ++ rest) t.written in
-    ap (λ (h : List ℕ). option_and_then (λ n. option_map (with_piece Open (take n h)) (pieces_of form (drop n h))) (token_len_of Open h)) colons
+-- what is made of a use and what stands behind it
+abbrev pub behind : (List Token → Option (List Use)) → Use × List Token → Option (List Use)
+behind rest made = if is_end made.1 then Some (made.0 ∷ []) else (sign_at signs.Arrow made.1 >>= λ after. option_map (λ uses. made.0 ∷ uses) (rest after))
 
-passes_on : (item : Item) (form : List Item) (kept more : List (List ℕ)) (text rest : List ℕ) (t : IsToken item kept more text rest) → pieces_of form rest ≡ None → pieces_of (item ∷ form) text ≡ None
-passes_on item form kept more text rest t none = token_read item form kept more text rest t ∙ ap (option_map (with_piece item t.token)) none
+last_read : (most : ℕ) (made : Use) (front rest : List Token) → IsUse made front → IsEnd rest → uses_from (suc most) (front ++ rest) ≡ Some (made ∷ [])
+unfolding uses_from
+last_read most made front rest use_is (ended semicolon finish first second) =
+    step (use_at (front ++ semicolon ∷ finish ∷ [])) (made, semicolon ∷ finish ∷ []) (behind (uses_from most)) (use_read made front signs.Semicolon semicolon (finish ∷ []) use_is first)
+    ∙ ap (λ b. if b then Some (made ∷ []) else (sign_at signs.Arrow (semicolon ∷ finish ∷ []) >>= λ after. option_map (λ uses. made ∷ uses) (uses_from most after))) (end_read _ (ended semicolon finish first second))
 
--- a text of the second shape is none of the first
-not_straight : (kept : List (List ℕ)) (text : List ℕ) → Spells classified kept text → pieces_of straight text ≡ None
-not_straight kept text s0 =
-    let s1 = s0.3 in
-    let s2 = s1.3 in
-    let s3 = s2.3 in
-    let s4 = s3.3 in
-    let s5 = s4.3 in
-    let s6 = s5.3 in
-    passes_on Name _ kept s0.1 text s0.0 s0.2
-    (passes_on Open _ s0.1 s1.1 s0.0 s1.0 s1.2
-    (passes_on Name _ s1.1 s2.1 s1.0 s2.0 s2.2
-    (passes_on Close _ s2.1 s3.1 s2.0 s3.0 s3.2
-    (passes_on Arrow _ s3.1 s4.1 s3.0 s4.0 s4.2
-    (passes_on Name _ s4.1 s5.1 s4.0 s5.0 s5.2
-    (no_open _ s5.1 s6.1 s5.0 s6.0 s6.2))))))
+arrow_read : (most : ℕ) (made : Use) (front : List Token) (arrow : Token) (rest : List Token) → IsUse made front → IsSign signs.Arrow arrow
+    → uses_from (suc most) (front ++ arrow ∷ rest) ≡ option_map (λ uses. made ∷ uses) (uses_from most rest)
+unfolding uses_from
+arrow_read most made front arrow rest use_is is =
+    step (use_at (front ++ arrow ∷ rest)) (made, arrow ∷ rest) (behind (uses_from most)) (use_read made front signs.Arrow arrow rest use_is is)
+    ∙ ap (λ b. if b then Some (made ∷ []) else (sign_at signs.Arrow (arrow ∷ rest) >>= λ after. option_map (λ uses. made ∷ uses) (uses_from most after))) (arrow_goes_on arrow rest is)
+    ∙ step (sign_at signs.Arrow (arrow ∷ rest)) rest (λ after. option_map (λ uses. made ∷ uses) (uses_from most after)) (sign_read signs.Arrow arrow rest is)
+
+line_read : (most : ℕ) (uses : List Use) (tokens : List Token) → IsLine uses tokens → length uses ≤ most → uses_from most tokens ≡ Some uses
+line_read zero uses tokens (final made front rest use_is end_is) few = absurd (omega arith)
+line_read zero uses tokens (onward made others front arrow rest use_is is line) few = absurd (omega arith)
+line_read (suc most) uses tokens (final made front rest use_is end_is) few = last_read most made front rest use_is end_is
+line_read (suc most) uses tokens (onward made others front arrow rest use_is is line) few =
+    arrow_read most made front arrow rest use_is is ∙ ap (option_map (λ uses. made ∷ uses)) (line_read most others rest line (omega arith))
+
+-- ---- the first shape
 
 bytes_eq-refl : (xs : List ℕ) → bytes_eq xs xs ≡ true
 bytes_eq-refl xs = (bytes_eq-Decides xs xs).1 refl
 
-same_names : (name : List ℕ) → is_reserved name ≡ false → is_one_name name name name ≡ true
+same_bytes : (xs ys : List ℕ) → xs ≡ ys → bytes_eq xs ys ≡ true
+same_bytes xs ys is = ap (λ (zs : List ℕ). bytes_eq xs zs) (sym is) ∙ bytes_eq-refl xs
+
+device_read : (text class : List ℕ) (made : Use) (device : List ℕ) → NamesDevice text class made device → device_of text class made ≡ Some device
+unfolding device_of device_named
+device_read text class made device named =
+    ap (λ b. if b then device_named (arguments_of text made) else None) (same_bytes (text_of text made.class) class named.class_is)
+    ∙ ap device_named named.argument
+    ∙ ap (λ b. if b then Some device else None) named.identifier
+
+kinds_read : (text : List ℕ) (uses : List Use) (elements : List Element) → AreKinds text uses elements → each (kind_of text) uses ≡ Some elements
+unfolding each
+kinds_read text uses elements no_more = refl
+kinds_read text uses elements (one_more made kind others rest is all) =
+    each_one (kind_of text) made others kind is ∙ ap (option_map (λ l. kind ∷ l)) (kinds_read text others rest all)
+
+last_of : (middle : List Use) (to : Use) → slice_get (middle ++ to ∷ []) (length (middle ++ to ∷ []) - 1) ≡ Some to
+last_of middle to = let e : length (middle ++ to ∷ []) - 1 ≡ length middle = omega (arith, length-append middle (to ∷ [])) in ap (slice_get (middle ++ to ∷ [])) e ∙ at_end middle
+  where
+    at_end : (xs : List Use) → slice_get (xs ++ to ∷ []) (length xs) ≡ Some to
+    at_end [] = refl
+    at_end (x ∷ xs) = at_end xs
+
+front_of : (middle : List Use) (to : Use) → take (length (middle ++ to ∷ []) - 1) (middle ++ to ∷ []) ≡ middle
+front_of middle to = let e : length (middle ++ to ∷ []) - 1 ≡ length middle = omega (arith, length-append middle (to ∷ [])) in ap (λ n. take n (middle ++ to ∷ [])) e ∙ take_at middle (to ∷ []) (length middle) refl
+
+line_told : (text device out : List ℕ) (from to : Use) (middle : List Use) (elements : List Element)
+    → NamesDevice text (codes "FromDevice") from device → AreKinds text middle elements → NamesDevice text (codes "ToDevice") to out → line_fits Frame (line_kinds device elements out) ≡ true
+    → line_of text from middle to ≡ Some (line_chain device elements out)
+unfolding line_of fitting_line
+line_told text device out from to middle elements from_is all to_is fit =
+    step (device_of text (codes "FromDevice") from) device _ (device_read text (codes "FromDevice") from device from_is)
+    ∙ step (each (kind_of text) middle) elements _ (kinds_read text middle elements all)
+    ∙ step (device_of text (codes "ToDevice") to) out (fitting_line device elements) (device_read text (codes "ToDevice") to out to_is)
+    ∙ ap (λ b. if b then Some (line_chain device elements out) else None) fit
+
+straight_told : (text device out : List ℕ) (from to : Use) (middle : List Use) (elements : List Element)
+    → NamesDevice text (codes "FromDevice") from device → AreKinds text middle elements → NamesDevice text (codes "ToDevice") to out → line_fits Frame (line_kinds device elements out) ≡ true
+    → straight_of text (from ∷ (middle ++ to ∷ [])) ≡ Some (line_chain device elements out)
+unfolding straight_of
+straight_told text device out from to middle elements from_is all to_is fit =
+    step (slice_get (middle ++ to ∷ []) (length (middle ++ to ∷ []) - 1)) to (line_of text from (take (length (middle ++ to ∷ []) - 1) (middle ++ to ∷ []))) (last_of middle to)
+    ∙ ap (λ (m : List Use). line_of text from m to) (front_of middle to)
+    ∙ line_told text device out from to middle elements from_is all to_is fit
+
+pub straight_read : StraightIsRead
+unfolding chain_of chain_in straight_in
+straight_read text device out from to middle elements bare line few from_is all to_is fit =
+    ap (λ b. if b then None else first_of_two (uses_from 512 (tokens_in text) >>= straight_of text) (classified_in text (tokens_in text))) bare
+    ∙ ap (λ (o : Option Parts). first_of_two o (classified_in text (tokens_in text)))
+    (step (uses_from 512 (tokens_in text)) (from ∷ (middle ++ to ∷ [])) (straight_of text) (line_read 512 (from ∷ (middle ++ to ∷ [])) (tokens_in text) line (omega (arith, length-append middle (to ∷ []))))
+    ∙ straight_told text device out from to middle elements from_is all to_is fit)
+
+-- ---- the second shape
+
+entry_read : (made : Use) (front : List Token) (arrow : Token) (rest : List Token) → IsUse made front → IsSign signs.Arrow arrow → entry_at (front ++ arrow ∷ rest) ≡ Some (made, rest)
+unfolding entry_at
+entry_read made front arrow rest use_is is =
+    step (use_at (front ++ arrow ∷ rest)) (made, arrow ∷ rest) (λ x. sign_at signs.Arrow x.1 >>= λ ts. Some (x.0, ts)) (use_read made front signs.Arrow arrow rest use_is is)
+    ∙ step (sign_at signs.Arrow (arrow ∷ rest)) rest (λ ts. Some (made, ts)) (sign_read signs.Arrow arrow rest is)
+
+declared_read : (name colons : Token) (rest : List Token) → name.kind ≡ kinds.Name → IsSign signs.Colons colons → declared_at (name ∷ colons ∷ rest) ≡ Some (word name, rest)
+unfolding declared_at
+declared_read name colons rest named is =
+    step (name_at (name ∷ colons ∷ rest)) (word name, colons ∷ rest) (λ x. sign_at signs.Colons x.1 >>= λ ts. Some (x.0, ts)) (name_read name (colons ∷ rest) named)
+    ∙ step (sign_at signs.Colons (colons ∷ rest)) rest (λ ts. Some (word name, ts)) (sign_read signs.Colons colons rest is)
+
+closed_read : (made : Use) (front : List Token) (semicolon : Token) (rest : List Token) → IsUse made front → IsSign signs.Semicolon semicolon → closed_at (front ++ semicolon ∷ rest) ≡ Some (made, rest)
+unfolding closed_at
+closed_read made front semicolon rest use_is is =
+    step (use_at (front ++ semicolon ∷ rest)) (made, semicolon ∷ rest) (λ x. sign_at signs.Semicolon x.1 >>= λ ts. Some (x.0, ts)) (use_read made front signs.Semicolon semicolon rest use_is is)
+    ∙ step (sign_at signs.Semicolon (semicolon ∷ rest)) rest (λ ts. Some (made, ts)) (sign_read signs.Semicolon semicolon rest is)
+
+digit_read : (digit : ℕ) (t : Token) (ts : List Token) → t.kind ≡ kinds.Number digit → t.to ≡ t.from + 1 → digit_at digit (t ∷ ts) ≡ Some ts
+unfolding digit_at
+digit_read digit t ts is long =
+    ap (λ (k : Kind). elim k as (λ _. Option (List Token)) [ kinds.Number n ↦ if n == digit && t.to - t.from == 1 then Some ts else None | _ ↦ None ]) is
+    ∙ ap (λ b. if b then Some ts else None) (one_digit digit t.from t.to long)
+  where
+    one_digit : (n from to : ℕ) → to ≡ from + 1 → (n == n && to - from == 1) ≡ true
+    one_digit n from to long = grind (arith, nat_tests)
+
+branch_read : (digit : ℕ) (name : Word) (front rest : List Token) → IsBranch digit name front → branch_at digit (front ++ rest) ≡ Some (name, rest)
+unfolding branch_at
+branch_read digit name front rest (branch t left number right arrow named left_is number_is long right_is arrow_is) =
+    step (name_at (t ∷ left ∷ number ∷ right ∷ arrow ∷ rest)) (word t, left ∷ number ∷ right ∷ arrow ∷ rest) _ (name_read t (left ∷ number ∷ right ∷ arrow ∷ rest) named)
+    ∙ step (sign_at signs.LeftBracket (left ∷ number ∷ right ∷ arrow ∷ rest)) (number ∷ right ∷ arrow ∷ rest) _ (sign_read signs.LeftBracket left (number ∷ right ∷ arrow ∷ rest) left_is)
+    ∙ step (digit_at digit (number ∷ right ∷ arrow ∷ rest)) (right ∷ arrow ∷ rest) _ (digit_read digit number (right ∷ arrow ∷ rest) number_is long)
+    ∙ step (sign_at signs.RightBracket (right ∷ arrow ∷ rest)) (arrow ∷ rest) _ (sign_read signs.RightBracket right (arrow ∷ rest) right_is)
+    ∙ step (sign_at signs.Arrow (arrow ∷ rest)) rest (λ ts. Some (word t, ts)) (sign_read signs.Arrow arrow rest arrow_is)
+
+last_use_read : (made : Use) (front rest : List Token) → IsUse made front → IsEnd rest → use_at (front ++ rest) ≡ Some (made, rest)
+last_use_read made front rest use_is (ended semicolon finish first second) = use_read made front signs.Semicolon semicolon (finish ∷ []) use_is first
+
+no_end_sign : (k : Kind) → is_sign signs.Colons k ≡ true → is_sign signs.Semicolon k ≡ false
+no_end_sign kinds.Semicolon is = cc
+no_end_sign k is = refl
+
+no_arrow_sign : (k : Kind) → is_sign signs.Colons k ≡ true → is_sign signs.Arrow k ≡ false
+no_arrow_sign kinds.Arrow is = cc
+no_arrow_sign k is = refl
+
+colons_go_on : (t : Token) (ts : List Token) → IsSign signs.Colons t → is_end (t ∷ ts) ≡ false
+unfolding is_end
+colons_go_on t ts is = ap (λ (o : Option (List Token)). is_some (o >>= sign_at signs.Finish)) (sign_missed signs.Semicolon t ts (no_end_sign t.kind is))
+
+-- a name with `::` behind it is no use of a line
+colons_stop : (most : ℕ) (name colons : Token) (rest : List Token) → name.kind ≡ kinds.Name → IsSign signs.Colons colons → uses_from (suc most) (name ∷ colons ∷ rest) ≡ None
+unfolding uses_from
+colons_stop most name colons rest named is =
+    let made : Use = record { class = word name; arguments = None } in
+    step (use_at (name ∷ colons ∷ rest)) (made, colons ∷ rest) (behind (uses_from most)) (use_read made (name ∷ []) signs.Colons colons rest (plain name named) is)
+    ∙ ap (λ b. if b then Some (made ∷ []) else (sign_at signs.Arrow (colons ∷ rest) >>= λ after. option_map (λ uses. made ∷ uses) (uses_from most after))) (colons_go_on colons rest is)
+    ∙ ap (λ o. o >>= λ after. option_map (λ uses. made ∷ uses) (uses_from most after)) (sign_missed signs.Arrow colons rest (no_arrow_sign colons.kind is))
+
+module _ (b : Branching) (tokens : List Token) (w : IsBranching b tokens) where
+  written_read : branching_in (w.from ++ w.arrow ∷ w.name ∷ w.colons ∷ (w.class ++ w.behind_class ∷ (w.first ++ (w.to ++ w.behind_to ∷ (w.second ++ (w.discard ++ w.end)))))) ≡ Some b
+  unfolding branching_in
+  written_read =
+      step _ (b.from, w.name ∷ w.colons ∷ (w.class ++ w.behind_class ∷ (w.first ++ (w.to ++ w.behind_to ∷ (w.second ++ (w.discard ++ w.end)))))) _ (entry_read b.from w.from w.arrow (w.name ∷ w.colons ∷ (w.class ++ w.behind_class ∷ (w.first ++ (w.to ++ w.behind_to ∷ (w.second ++ (w.discard ++ w.end)))))) w.from_is w.arrow_is)
+      ∙ step _ (word w.name, w.class ++ w.behind_class ∷ (w.first ++ (w.to ++ w.behind_to ∷ (w.second ++ (w.discard ++ w.end))))) _ (declared_read w.name w.colons (w.class ++ w.behind_class ∷ (w.first ++ (w.to ++ w.behind_to ∷ (w.second ++ (w.discard ++ w.end))))) w.name_is w.colons_are)
+      ∙ step _ (b.class, w.first ++ (w.to ++ w.behind_to ∷ (w.second ++ (w.discard ++ w.end)))) _ (closed_read b.class w.class w.behind_class (w.first ++ (w.to ++ w.behind_to ∷ (w.second ++ (w.discard ++ w.end)))) w.class_is w.behind_class_is)
+      ∙ step _ (b.first, w.to ++ w.behind_to ∷ (w.second ++ (w.discard ++ w.end))) _ (branch_read 0 b.first w.first (w.to ++ w.behind_to ∷ (w.second ++ (w.discard ++ w.end))) w.first_is)
+      ∙ step _ (b.to, w.second ++ (w.discard ++ w.end)) _ (closed_read b.to w.to w.behind_to (w.second ++ (w.discard ++ w.end)) w.to_is w.behind_to_is)
+      ∙ step _ (b.second, w.discard ++ w.end) _ (branch_read 1 b.second w.second (w.discard ++ w.end) w.second_is)
+      ∙ step _ (b.last, w.end) _ (last_use_read b.last w.discard w.end w.discard_is w.end_is)
+      ∙ ap (λ t. if t then Some (record { from = b.from; name = word w.name; class = b.class; first = b.first; to = b.to; second = b.second; last = b.last }) else None) (end_read w.end w.end_is)
+      ∙ ap (λ (n : Word). Some (record { from = b.from; name = n; class = b.class; first = b.first; to = b.to; second = b.second; last = b.last })) (sym w.name_word)
+
+  branching_read : branching_in tokens ≡ Some b
+  branching_read = ap branching_in w.tokens_are ∙ written_read
+
+  -- it is no line of uses
+  no_line : (most : ℕ) → uses_from (suc (suc most)) tokens ≡ None
+  no_line most =
+      let rest = w.class ++ w.behind_class ∷ (w.first ++ (w.to ++ w.behind_to ∷ (w.second ++ (w.discard ++ w.end)))) in
+      ap (uses_from (suc (suc most))) w.tokens_are
+      ∙ arrow_read (suc most) b.from w.from w.arrow (w.name ∷ w.colons ∷ rest) w.from_is w.arrow_is
+      ∙ ap (option_map (λ uses. b.from ∷ uses)) (colons_stop most w.name w.colons rest w.name_is w.colons_are)
+
+same_names : (name first second : List ℕ) → first ≡ name → second ≡ name → is_reserved name ≡ false → is_one_name name first second ≡ true
 unfolding is_one_name
-same_names name free =
-    ap (λ b. b && b && not (is_reserved name)) (bytes_eq-refl name) ∙ ap not free
+same_names name first second one two free =
+    ap (λ t. t && bytes_eq second name && not (is_reserved name)) (same_bytes first name one)
+    ∙ ap (λ t. t && not (is_reserved name)) (same_bytes second name two)
+    ∙ ap not free
+
+discard_read : (text : List ℕ) (made : Use) → text_of text made.class ≡ codes "Discard" → made.arguments ≡ None → is_discard text made ≡ true
+unfolding is_discard
+discard_read text made class nothing =
+    ap (λ (o : Option Word). elim o as (λ _. Bool) [ None ↦ is_class text made (codes "Discard") | Some _ ↦ false ]) nothing ∙ same_bytes (text_of text made.class) (codes "Discard") class
+
+two_read : (text : List ℕ) (made : Use) (patterns : List (List Clause)) → text_of text made.class ≡ codes "Classifier" → length (arguments_of text made) ≡ 2 → patterns_of (arguments_of text made) ≡ Some patterns → two_patterns text made ≡ Some patterns
+unfolding two_patterns
+two_read text made patterns class two is =
+    ap (λ t. if t then two_of (arguments_of text made) else None) (same_bytes (text_of text made.class) (codes "Classifier") class)
+    ∙ ap (λ n. if n == 2 then patterns_of (arguments_of text made) else None) two
+    ∙ is
+
+classified_told : (text device out : List ℕ) (patterns : List (List Clause)) (b : Branching) → IsClassified text device patterns out b → classified_of text b ≡ Some (classified_chain device patterns out)
+unfolding classified_of has_names
+classified_told text device out patterns b c =
+    ap (λ t. if t then (device_of text (codes "FromDevice") b.from >>= λ d. two_patterns text b.class >>= λ p. device_of text (codes "ToDevice") b.to >>= λ o. Some (classified_chain d p o)) else None)
+    (ap (λ t. t && is_discard text b.last) (same_names (text_of text b.name) (text_of text b.first) (text_of text b.second) c.first c.second c.free) ∙ discard_read text b.last c.discard c.nothing_told)
+    ∙ step (device_of text (codes "FromDevice") b.from) device _ (device_read text (codes "FromDevice") b.from device c.from)
+    ∙ step (two_patterns text b.class) patterns _ (two_read text b.class patterns c.class c.two c.patterns_are)
+    ∙ step (device_of text (codes "ToDevice") b.to) out (λ o. Some (classified_chain device patterns o)) (device_read text (codes "ToDevice") b.to out c.to)
 
 pub classified_read : ClassifiedIsRead
-unfolding chain_of straight_in classified_in classified_from are_classes
-classified_read device name ether_type out text free spelled =
-    ap (λ (o : Option (List (List ℕ))). first_of_two (option_and_then straight_from o) (classified_in text)) (not_straight _ text spelled)
-    ∙ ap (option_and_then classified_from) (spelled_read classified _ text spelled)
-    ∙ ap (λ b. if b then Some (classified_chain device (ether_type_of ether_type) out) else None) (same_names name free)
+unfolding chain_of chain_in straight_in classified_in
+classified_read text device out patterns b bare written c =
+    let tokens = tokens_in text in
+    ap (λ t. if t then None else first_of_two (uses_from 512 tokens >>= straight_of text) (branching_in tokens >>= classified_of text)) bare
+    ∙ ap (λ (o : Option (List Use)). first_of_two (o >>= straight_of text) (branching_in tokens >>= classified_of text)) (no_line b tokens written 510)
+    ∙ step (branching_in tokens) b (classified_of text) (branching_read b tokens written)
+    ∙ classified_told text device out patterns b c

@@ -1,6 +1,12 @@
 pub mod Parts
 pub mod Chain
-pub mod Lexis
-pub mod Form
+pub mod Layers
+pub mod Accepted
+pub mod Arguments
+pub mod Patterns
+pub mod Classes
+pub mod Reading
 pub mod Shape
+pub mod Promises
 pub mod Spelling
+pub mod Middle

@@ -1,25 +1,55 @@
 -- The two shapes of text, and the chains that they stand for.
-use Rattle.std.specs.Prelude.{ℕ, ◌+◌, ◌*◌, Bool, ◌&&◌, ◌||◌, not, if◌then◌else◌, List, [], ◌∷◌, map, slice_index, Option, Some, None, option_and_then, codes}
+use Rattle.std.specs.Prelude.{ℕ, zero, suc, ◌+◌, ◌-◌, Bool, true, false, ◌&&◌, ◌||◌, ◌==◌, nat_lt, not, if◌then◌else◌, List, [], ◌∷◌, ◌++◌, map, take, drop, length, slice_get, Option, Some, None, codes}
 use Rattle.std.specs.Str.{bytes_eq}
-use Rattle.mt_elements.specs.declared.form.Item.{Item}
-use Rattle.mt_elements.specs.declared.form.Item.TheVariants.{Name, EtherType, Open, Close, OpenBracket, CloseBracket, Comma, Dash, Arrow, Colons, Semicolon, Zero, One}
+use Rattle.mt_pattern.specs.Number.{◌>>=◌}
+use Rattle.mt_click.specs.Arguments.{separated}
+use Rattle.mt_click.specs.Tokens.{tokens_in}
+use Rattle.mt_click.specs.declared.token.Token.{Token}
+use Rattle.mt_click.specs.declared.part.Word.{Word}
+use Rattle.mt_click.specs.declared.part.Use.{Use}
+use Rattle.mt_packet.specs.declared.layer.Layer.{Layer}
+use Rattle.mt_packet.specs.declared.layer.Layer.TheVariants.{Frame}
 use Rattle.mt_elements.specs.declared.kind.Clause.{Clause}
-use Rattle.mt_elements.specs.declared.kind.Clause.TheVariants.{EthType}
+use Rattle.mt_elements.specs.declared.kind.Kind.{Kind}
 use Rattle.mt_elements.specs.declared.kind.Kind.TheVariants.{FromDevice, ToDevice, Classifier, Discard}
+use Rattle.mt_elements.specs.declared.reading.Branching.{Branching}
 use Rattle.mt_elements.specs.Parts.{Parts}
-use Rattle.mt_elements.specs.Lexis.{hex_value_of}
-use Rattle.mt_elements.specs.Form.{pieces_of}
+use Rattle.mt_elements.specs.Layers.{takes, layer_behind}
+use Rattle.mt_elements.specs.Arguments.{is_identifier}
+use Rattle.mt_elements.specs.Patterns.{each, patterns_of}
+use Rattle.mt_elements.specs.Classes.{stateless_kind}
+use Rattle.mt_elements.specs.Reading.{uses_from, branching_in, has_comment}
 
--- FromDevice ( D ) -> ToDevice ( E ) ;
-abbrev pub straight : List Item
-straight = Name ∷ Open ∷ Name ∷ Close ∷ Arrow ∷ Name ∷ Open ∷ Name ∷ Close ∷ Semicolon ∷ []
+-- ---- words and arguments
 
--- FromDevice ( D ) -> NAME :: Classifier ( 12/HHHH , - ) ; NAME [ 0 ] -> ToDevice ( E ) ; NAME [ 1 ] -> Discard ;
-abbrev pub classified : List Item
-classified =
-    Name ∷ Open ∷ Name ∷ Close ∷ Arrow ∷ Name ∷ Colons ∷ Name ∷ Open ∷ EtherType ∷ Comma ∷ Dash ∷ Close ∷ Semicolon
-    ∷ Name ∷ OpenBracket ∷ Zero ∷ CloseBracket ∷ Arrow ∷ Name ∷ Open ∷ Name ∷ Close ∷ Semicolon
-    ∷ Name ∷ OpenBracket ∷ One ∷ CloseBracket ∷ Arrow ∷ Name ∷ Semicolon ∷ []
+abbrev pub text_of : List ℕ → Word → List ℕ
+text_of text word = drop word.from (take word.to text)
+
+-- what stands between the first and the last of some bytes
+abbrev pub within : List ℕ → List ℕ
+within bytes = if nat_lt (length bytes) 2 then [] else take (length bytes - 1 - 1) (drop 1 bytes)
+
+-- what stands between the parentheses, nothing where there are none
+abbrev pub inner_of : List ℕ → Option Word → List ℕ
+inner_of text None = []
+inner_of text (Some arguments) = within (text_of text arguments)
+
+abbrev pub arguments_of : List ℕ → Use → List (List ℕ)
+arguments_of text made = separated (inner_of text made.arguments)
+
+abbrev pub is_class : List ℕ → Use → List ℕ → Bool
+is_class text made class = bytes_eq (text_of text made.class) class
+
+-- ---- devices
+
+-- exactly one argument, an identifier
+unfoldable pub device_named : List (List ℕ) → Option (List ℕ)
+device_named (name ∷ []) = if is_identifier name then Some name else None
+device_named _ = None
+
+-- the device of a use of that class
+unfoldable pub device_of : List ℕ → List ℕ → Use → Option (List ℕ)
+device_of text class made = if is_class text made class then device_named (arguments_of text made) else None
 
 -- Device 1 is the one on which frames arrive; the one on which they are sent is device 2, unless it has the same name.
 abbrev pub output_of : List ℕ → List ℕ → ℕ
@@ -28,66 +58,108 @@ output_of device out = if bytes_eq device out then 1 else 2
 abbrev pub devices_of : List ℕ → List ℕ → List (List ℕ)
 devices_of device out = if bytes_eq device out then device ∷ [] else device ∷ out ∷ []
 
--- outputs that lead each to input 0 of one of these elements
-abbrev pub wires_to : List ℕ → List (Option (ℕ × ℕ))
-wires_to elements = map (λ element. Some (element, 0)) elements
+-- ---- a straight line
 
-unfoldable pub straight_chain : List ℕ → List ℕ → Parts
-straight_chain device out = record {
-  kinds = FromDevice 1 ∷ ToDevice (output_of device out) ∷ [];
-  outputs = wires_to (1 ∷ []) ∷ wires_to [] ∷ [];
+-- each element takes the layer at which it is reached along a line
+unfoldable pub line_fits : Layer → List Kind → Bool
+line_fits layer [] = true
+line_fits layer (kind ∷ kinds) = takes kind layer && line_fits (layer_behind kind layer 0) kinds
+
+-- output 0 of each element of a line leads to the next, from that element on; so many more follow
+unfoldable pub line_outputs : ℕ → ℕ → List (List (Option (ℕ × ℕ)))
+line_outputs element zero = [] ∷ []
+line_outputs element (suc more) = (Some (element + 1, 0) ∷ []) ∷ line_outputs (element + 1) more
+
+-- the elements of a line from its first device to its last
+abbrev pub line_kinds : List ℕ → List Kind → List ℕ → List Kind
+line_kinds device kinds out = FromDevice 1 ∷ (kinds ++ ToDevice (output_of device out) ∷ [])
+
+unfoldable pub line_chain : List ℕ → List Kind → List ℕ → Parts
+line_chain device kinds out = record {
+  kinds = line_kinds device kinds out;
+  outputs = line_outputs 0 (length kinds + 1);
   devices = devices_of device out;
   entries = 1;
 }
 
--- the patterns `12/HHHH` and `-`
-abbrev pub two_patterns : ℕ → List (List Clause)
-two_patterns value = (EthType value ∷ []) ∷ [] ∷ []
+unfoldable pub fitting_line : List ℕ → List Kind → List ℕ → Option Parts
+fitting_line device kinds out = if line_fits Frame (line_kinds device kinds out) then Some (line_chain device kinds out) else None
 
-unfoldable pub classified_chain : List ℕ → ℕ → List ℕ → Parts
-classified_chain device value out = record {
-  kinds = FromDevice 1 ∷ Classifier (two_patterns value) ∷ ToDevice (output_of device out) ∷ Discard ∷ [];
+-- the kind of a use
+abbrev pub kind_of : List ℕ → Use → Option Kind
+kind_of text made = stateless_kind (text_of text made.class) (arguments_of text made)
+
+-- the chain of a line of uses
+unfoldable pub line_of : List ℕ → Use → List Use → Use → Option Parts
+line_of text first middle last = do
+  device ← device_of text (codes "FromDevice") first
+  kinds ← each (kind_of text) middle
+  out ← device_of text (codes "ToDevice") last
+  fitting_line device kinds out
+
+unfoldable pub straight_of : List ℕ → List Use → Option Parts
+straight_of text [] = None
+straight_of text (first ∷ uses) = slice_get uses (length uses - 1) >>= line_of text first (take (length uses - 1) uses)
+
+-- at most 512 elements
+unfoldable pub straight_in : List ℕ → List Token → Option Parts
+straight_in text tokens = uses_from 512 tokens >>= straight_of text
+
+-- ---- a line with a classifier
+
+-- outputs that lead each to input 0 of one of these elements
+abbrev pub wires_to : List ℕ → List (Option (ℕ × ℕ))
+wires_to elements = map (λ element. Some (element, 0)) elements
+
+unfoldable pub classified_chain : List ℕ → List (List Clause) → List ℕ → Parts
+classified_chain device patterns out = record {
+  kinds = FromDevice 1 ∷ Classifier patterns ∷ ToDevice (output_of device out) ∷ Discard ∷ [];
   outputs = wires_to (1 ∷ []) ∷ wires_to (2 ∷ 3 ∷ []) ∷ wires_to [] ∷ wires_to [] ∷ [];
   devices = devices_of device out;
   entries = 1;
 }
 
--- a name that means something else
+-- a name that means something else; `elementclass` is no name at all
 unfoldable pub is_reserved : List ℕ → Bool
-is_reserved name = bytes_eq name (codes "elementclass") || bytes_eq name (codes "FromDevice") || bytes_eq name (codes "ToDevice") || bytes_eq name (codes "Classifier") || bytes_eq name (codes "Discard")
-
-unfoldable pub are_classes : List ℕ → List ℕ → List ℕ → List ℕ → Bool
-are_classes from class to discard = bytes_eq from (codes "FromDevice") && bytes_eq class (codes "Classifier") && bytes_eq to (codes "ToDevice") && bytes_eq discard (codes "Discard")
+is_reserved name = bytes_eq name (codes "FromDevice") || bytes_eq name (codes "ToDevice") || bytes_eq name (codes "Classifier") || bytes_eq name (codes "Discard")
 
 unfoldable pub is_one_name : List ℕ → List ℕ → List ℕ → Bool
 is_one_name name first second = bytes_eq first name && bytes_eq second name && not (is_reserved name)
 
-abbrev pub digit_at : List ℕ → ℕ → ℕ
-digit_at piece place = hex_value_of (slice_index piece place)
+-- a Discard without an argument text
+unfoldable pub is_discard : List ℕ → Use → Bool
+is_discard text made = elim made.arguments [ None ↦ is_class text made (codes "Discard") | Some _ ↦ false ]
 
--- the number behind `12/`
-unfoldable pub ether_type_of : List ℕ → ℕ
-ether_type_of piece = digit_at piece 3 * 4096 + digit_at piece 4 * 256 + digit_at piece 5 * 16 + digit_at piece 6
+-- of a Classifier's arguments, exactly two
+abbrev pub two_of : List (List ℕ) → Option (List (List Clause))
+two_of arguments = if length arguments == 2 then patterns_of arguments else None
 
-unfoldable pub straight_from : List (List ℕ) → Option Parts
-straight_from (from ∷ device ∷ to ∷ out ∷ []) = if bytes_eq from (codes "FromDevice") && bytes_eq to (codes "ToDevice") then Some (straight_chain device out) else None
-straight_from _ = None
+unfoldable pub two_patterns : List ℕ → Use → Option (List (List Clause))
+two_patterns text made = if is_class text made (codes "Classifier") then two_of (arguments_of text made) else None
 
-unfoldable pub classified_from : List (List ℕ) → Option Parts
-classified_from (from ∷ device ∷ name ∷ class ∷ ether_type ∷ first ∷ to ∷ out ∷ second ∷ discard ∷ []) =
-    if are_classes from class to discard && is_one_name name first second then Some (classified_chain device (ether_type_of ether_type) out) else None
-classified_from _ = None
+-- the names and classes of the second shape
+unfoldable pub has_names : List ℕ → Branching → Bool
+has_names text b = is_one_name (text_of text b.name) (text_of text b.first) (text_of text b.second) && is_discard text b.last
 
-unfoldable pub straight_in : List ℕ → Option Parts
-straight_in text = option_and_then straight_from (pieces_of straight text)
+unfoldable pub classified_of : List ℕ → Branching → Option Parts
+classified_of text b = if has_names text b then (do
+  device ← device_of text (codes "FromDevice") b.from
+  patterns ← two_patterns text b.class
+  out ← device_of text (codes "ToDevice") b.to
+  Some (classified_chain device patterns out)) else None
 
-unfoldable pub classified_in : List ℕ → Option Parts
-classified_in text = option_and_then classified_from (pieces_of classified text)
+unfoldable pub classified_in : List ℕ → List Token → Option Parts
+classified_in text tokens = branching_in tokens >>= classified_of text
+
+-- ---- both
 
 abbrev pub first_of_two : Option Parts → Option Parts → Option Parts
 first_of_two (Some chain) other = Some chain
 first_of_two None other = other
 
+unfoldable pub chain_in : List ℕ → List Token → Option Parts
+chain_in text tokens = first_of_two (straight_in text tokens) (classified_in text tokens)
+
 -- the chain that a text stands for, where it has one of the two shapes
 unfoldable pub chain_of : List ℕ → Option Parts
-chain_of text = first_of_two (straight_in text) (classified_in text)
+chain_of text = if has_comment text then None else chain_in text (tokens_in text)

@@ -1,65 +1,111 @@
--- Texts as they are written: the tokens of a form in their order, any white space before and behind each, and
--- any names where the form leaves them open.
-use Rattle.std.specs.Prelude.{◌≡◌, ℕ, true, false, List, [], ◌∷◌, ◌++◌, slice_index, Some, ⊤, codes}
-use Rattle.std.specs.List.{list_all}
-use Rattle.mt_elements.specs.declared.form.Item.{Item}
-use Rattle.mt_elements.specs.declared.form.Item.TheVariants.{Name, EtherType}
-use Rattle.mt_elements.specs.Lexis.{is_space, is_name_start, is_name_byte, is_hex_digit}
-use Rattle.mt_elements.specs.Form.{spelling_of, with_piece}
-use Rattle.mt_elements.specs.Shape.{straight, classified, straight_chain, classified_chain, is_reserved, ether_type_of, chain_of}
+-- The two shapes as their tokens are written. Between tokens may stand any white space; names are any names.
+use Rattle.std.specs.Prelude.{◌≡◌, ◌≤◌, ℕ, ◌+◌, true, false, List, [], ◌∷◌, ◌++◌, length, Some, None, codes}
+use Rattle.mt_click.specs.Tokens.{tokens_in}
+use Rattle.mt_click.specs.declared.token.Kind.TheVariants as kinds
+use Rattle.mt_click.specs.declared.token.Token.{Token}
+use Rattle.mt_click.specs.declared.part.Word.{Word}
+use Rattle.mt_click.specs.declared.part.Use.{Use}
+use Rattle.mt_packet.specs.declared.layer.Layer.TheVariants.{Frame}
+use Rattle.mt_elements.specs.declared.kind.Clause.{Clause}
+use Rattle.mt_elements.specs.declared.kind.Kind.{Kind}
+use Rattle.mt_elements.specs.declared.reading.Sign.{Sign}
+use Rattle.mt_elements.specs.declared.reading.Sign.TheVariants as signs
+use Rattle.mt_elements.specs.declared.reading.Branching.{Branching}
+use Rattle.mt_elements.specs.Arguments.{is_identifier}
+use Rattle.mt_elements.specs.Patterns.{patterns_of}
+use Rattle.mt_elements.specs.Reading.{word, is_sign, has_comment}
+use Rattle.mt_elements.specs.Shape.{text_of, arguments_of, kind_of, line_fits, line_kinds, line_chain, classified_chain, is_reserved, chain_of}
 
-abbrev pub IsSpace : List ℕ → Type 0
-IsSpace text = list_all is_space text ≡ true
+-- ---- tokens
 
--- a letter or `_`, and then bytes that a name goes on with
-pub record IsName (text : List ℕ) : Type 0 where
-  pub start : is_name_start (slice_index text 0) ≡ true
-  pub bytes : list_all is_name_byte text ≡ true
+abbrev pub IsSign : Sign → Token → Type 0
+IsSign sign t = is_sign sign t.kind ≡ true
 
--- `12/` and four hexadecimal digits
-pub record IsEtherType (text : List ℕ) : Type 0 where
-  pub first : ℕ
-  pub second : ℕ
-  pub third : ℕ
-  pub fourth : ℕ
-  pub digits : list_all is_hex_digit (first ∷ second ∷ third ∷ fourth ∷ []) ≡ true
-  pub spelled : text ≡ spelling_of EtherType ++ first ∷ second ∷ third ∷ fourth ∷ []
+-- a use: a class name, and an argument text or none
+pub data IsUse : Use → List Token → Type 0 where
+  plain : (name : Token) → name.kind ≡ kinds.Name → IsUse (record { class = word name; arguments = None }) (name ∷ [])
+  told : (name arguments : Token) → name.kind ≡ kinds.Name → arguments.kind ≡ kinds.Arguments → IsUse (record { class = word name; arguments = Some (word arguments) }) (name ∷ arguments ∷ [])
 
--- how a token of a form is written
-abbrev pub IsWritten : Item → List ℕ → Type 0
-IsWritten Name text = IsName text
-IsWritten EtherType text = IsEtherType text
-IsWritten item text = text ≡ spelling_of item
+-- one `;`, and then the end of the text
+pub data IsEnd : List Token → Type 0 where
+  ended : (semicolon finish : Token) → IsSign signs.Semicolon semicolon → IsSign signs.Finish finish → IsEnd (semicolon ∷ finish ∷ [])
 
--- a name is written whole: what follows does not go on with it
-abbrev pub MayFollow : Item → List ℕ → Type 0
-MayFollow Name rest = is_name_byte (slice_index rest 0) ≡ false
-MayFollow item rest = ⊤
+-- use -> use -> .. -> use ;
+pub data IsLine : List Use → List Token → Type 0 where
+  final : (made : Use) (front rest : List Token) → IsUse made front → IsEnd rest → IsLine (made ∷ []) (front ++ rest)
+  onward : (made : Use) (uses : List Use) (front : List Token) (arrow : Token) (rest : List Token) → IsUse made front → IsSign signs.Arrow arrow → IsLine uses rest
+      → IsLine (made ∷ uses) (front ++ arrow ∷ rest)
 
--- a text is white space, a token and a rest; what is kept is the token, where it is kept, and then more
-pub record IsToken (item : Item) (kept more : List (List ℕ)) (text rest : List ℕ) : Type 0 where
-  pub space : List ℕ
-  pub token : List ℕ
-  pub only_space : IsSpace space
-  pub written : IsWritten item token
-  pub ends : MayFollow item rest
-  pub text_is : text ≡ space ++ (token ++ rest)
-  pub kept_is : kept ≡ with_piece item token more
+-- NAME [ digit ] ->
+pub data IsBranch (digit : ℕ) : Word → List Token → Type 0 where
+  branch : (name left number right arrow : Token) → name.kind ≡ kinds.Name → IsSign signs.LeftBracket left → number.kind ≡ kinds.Number digit → number.to ≡ number.from + 1
+      → IsSign signs.RightBracket right → IsSign signs.Arrow arrow → IsBranch digit (word name) (name ∷ left ∷ number ∷ right ∷ arrow ∷ [])
 
--- a text is of a form, with these pieces where the form leaves them open
-abbrev pub Spells : List Item → List (List ℕ) → List ℕ → Type 0
-Spells [] kept text = (kept ≡ []) × IsSpace text
-Spells (item ∷ form) kept text = (rest : List ℕ) × (more : List (List ℕ)) × IsToken item kept more text rest × Spells form more rest
+-- use -> NAME :: use ; NAME [ 0 ] -> use ; NAME [ 1 ] -> use ;
+pub record IsBranching (b : Branching) (tokens : List Token) : Type 0 where
+  pub from : List Token
+  pub arrow : Token
+  pub name : Token
+  pub colons : Token
+  pub class : List Token
+  pub behind_class : Token
+  pub first : List Token
+  pub to : List Token
+  pub behind_to : Token
+  pub second : List Token
+  pub discard : List Token
+  pub end : List Token
+  pub from_is : IsUse b.from from
+  pub arrow_is : IsSign signs.Arrow arrow
+  pub name_is : name.kind ≡ kinds.Name
+  pub name_word : b.name ≡ word name
+  pub colons_are : IsSign signs.Colons colons
+  pub class_is : IsUse b.class class
+  pub behind_class_is : IsSign signs.Semicolon behind_class
+  pub first_is : IsBranch 0 b.first first
+  pub to_is : IsUse b.to to
+  pub behind_to_is : IsSign signs.Semicolon behind_to
+  pub second_is : IsBranch 1 b.second second
+  pub discard_is : IsUse b.last discard
+  pub end_is : IsEnd end
+  pub tokens_are : tokens ≡ from ++ arrow ∷ name ∷ colons ∷ (class ++ behind_class ∷ (first ++ (to ++ behind_to ∷ (second ++ (discard ++ end)))))
 
--- Each text of the first shape is read as its chain, whatever its names and its white space.
+-- ---- what they say
+
+-- a use of that class whose one argument is the name of a device
+pub record NamesDevice (text class : List ℕ) (made : Use) (device : List ℕ) : Type 0 where
+  pub class_is : text_of text made.class ≡ class
+  pub argument : arguments_of text made ≡ device ∷ []
+  pub identifier : is_identifier device ≡ true
+
+-- each use is of that kind
+pub data AreKinds (text : List ℕ) : List Use → List Kind → Type 0 where
+  no_more : AreKinds text [] []
+  one_more : (made : Use) (kind : Kind) (uses : List Use) (kinds : List Kind) → kind_of text made ≡ Some kind → AreKinds text uses kinds → AreKinds text (made ∷ uses) (kind ∷ kinds)
+
+-- Each text whose tokens are a line of uses, from a device to a device, with elements between them that take the
+-- layers at which they are reached, is read as that line.
 abbrev pub StraightIsRead : Type 0
 StraightIsRead =
-    (device out text : List ℕ) → Spells straight (codes "FromDevice" ∷ device ∷ codes "ToDevice" ∷ out ∷ []) text
-    → chain_of text ≡ Some (straight_chain device out)
+    (text device out : List ℕ) (from to : Use) (middle : List Use) (elements : List Kind) → has_comment text ≡ false → IsLine (from ∷ (middle ++ to ∷ [])) (tokens_in text) → length middle ≤ 510
+    → NamesDevice text (codes "FromDevice") from device → AreKinds text middle elements → NamesDevice text (codes "ToDevice") to out → line_fits Frame (line_kinds device elements out) ≡ true
+    → chain_of text ≡ Some (line_chain device elements out)
 
--- And so is each text of the second, with one name for the classifier that means nothing else.
+-- the names and uses of the second shape, with one name for the classifier that means nothing else
+pub record IsClassified (text device : List ℕ) (patterns : List (List Clause)) (out : List ℕ) (b : Branching) : Type 0 where
+  pub from : NamesDevice text (codes "FromDevice") b.from device
+  pub class : text_of text b.class.class ≡ codes "Classifier"
+  pub two : length (arguments_of text b.class) ≡ 2
+  pub patterns_are : patterns_of (arguments_of text b.class) ≡ Some patterns
+  pub to : NamesDevice text (codes "ToDevice") b.to out
+  pub first : text_of text b.first ≡ text_of text b.name
+  pub second : text_of text b.second ≡ text_of text b.name
+  pub free : is_reserved (text_of text b.name) ≡ false
+  pub discard : text_of text b.last.class ≡ codes "Discard"
+  pub nothing_told : b.last.arguments ≡ None
+
+-- Each text whose tokens are those of the second shape is read as its chain.
 abbrev pub ClassifiedIsRead : Type 0
 ClassifiedIsRead =
-    (device name ether_type out text : List ℕ) → is_reserved name ≡ false
-    → Spells classified (codes "FromDevice" ∷ device ∷ name ∷ codes "Classifier" ∷ ether_type ∷ name ∷ codes "ToDevice" ∷ out ∷ name ∷ codes "Discard" ∷ []) text
-    → chain_of text ≡ Some (classified_chain device (ether_type_of ether_type) out)
+    (text device out : List ℕ) (patterns : List (List Clause)) (b : Branching) → has_comment text ≡ false → IsBranching b (tokens_in text) → IsClassified text device patterns out b
+    → chain_of text ≡ Some (classified_chain device patterns out)

@@ -1,11 +1,12 @@
 //! A chain: elements, the wires between them, and its devices.
 ghost use Rattle.std.specs.Prelude.{◌≡◌, ◌<◌, ◌^◌, length, slice_get, Some, map};
+ghost use Rattle.mt_elements.specs.Accepted.{CanRun};
 ghost use Rattle.mt_elements.specs.Chain.{next_of};
 
 use crate::{Kind, Text};
 use std::marker::Model;
 
-/// A chain that was accepted. Elements are numbered from 0, devices from 1: first those on which frames
+/// A chain that was accepted, which the type keeps. Elements are numbered from 0, devices from 1: first those on which frames
 /// arrive.
 #[derive(Drop)]
 pub struct Chain {
@@ -18,12 +19,14 @@ pub struct Chain {
 impl Model for Chain {
     ghost use Rattle.std.specs.Prelude.{◌<◌, ◌^◌, length, map};
     ghost use Rattle.mt_elements.specs.Parts.{Parts};
+    ghost use Rattle.mt_elements.specs.Accepted.{CanRun};
 
     ghost Value = { Parts };
 
     ghost view = { λ c. record { kinds = c.kinds.items; outputs = map (λ v. v.items) c.outputs.items; devices = c.devices.items; entries = c.entries } };
 
-    ghost invariant = { λ c. (length c.kinds.items < 2 ^ 32) × (length c.devices.items < 2 ^ 32) };
+    ghost invariant = { λ c. (length c.kinds.items < 2 ^ 32) × (length c.devices.items < 2 ^ 32)
+        × CanRun (record { kinds = c.kinds.items; outputs = map (λ v. v.items) c.outputs.items; devices = c.devices.items; entries = c.entries }) };
 }
 
 impl Chain {
@@ -37,6 +40,7 @@ impl Chain {
     ) -> Chain
         requires few_elements { length kinds.items < 2 ^ 32 }
         requires few_devices { length devices.items < 2 ^ 32 }
+        requires accepted { CanRun (record { kinds = kinds.items; outputs = map (λ v. v.items) outputs.items; devices = devices.items; entries = entries }) }
         ensures { result ≡ record { kinds = kinds.items; outputs = map (λ v. v.items) outputs.items; devices = devices.items; entries = entries } }
     {
         Chain {
@@ -45,6 +49,14 @@ impl Chain {
             devices,
             entries,
         }
+    }
+
+    /// Every chain is accepted: each element takes the layers at which packets reach it, and each of its
+    /// outputs leads on or is one that may lead nowhere.
+    pub fn is_accepted(&self)
+        ensures { CanRun self.now }
+    {
+        let _opened = self.entries;
     }
 
     /// The number of elements.

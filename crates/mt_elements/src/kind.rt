@@ -8,6 +8,21 @@ use std::marker::Model;
 pub enum Clause {
     /// Bytes 12 and 13 of the frame, the EtherType, in network order.
     EthType(u16),
+    /// The first six bytes of the frame, the destination address, 48 bits in network order.
+    EthDst(u64),
+    /// Bytes 6 to 11 of the frame, the source address, 48 bits in network order.
+    EthSrc(u64),
+    /// The operation of an ARP packet (RFC 826).
+    ArpOp(u16),
+}
+
+/// One of the two ends of an IPv4 packet.
+#[derive(Clone, Copy, Debug, PartialEq, Eq)]
+pub enum End {
+    /// Where it comes from.
+    Src,
+    /// Where it goes to.
+    Dst,
 }
 
 /// The patterns of a `Classifier` in their order. A pattern is its clauses; one with no clause, written
@@ -65,4 +80,34 @@ pub enum Kind {
     Classifier(Patterns),
     /// Drops every frame. It has no output.
     Discard,
+    /// Sends every packet on by output 0, as it is.
+    Null,
+    /// Sends every packet on by output 0, as it is.
+    Counter,
+    /// Sends every packet on by output 0, as it is.
+    Queue,
+    /// Gives the packet this paint.
+    Paint(u8),
+    /// Sends a packet to the output with the number of its paint.
+    PaintSwitch,
+    /// Swaps the Ethernet addresses.
+    EtherMirror,
+    /// Takes the Ethernet header away.
+    Strip,
+    /// Looks whether the packet is valid IPv4, and sends it to output 0 if so, else to output 1.
+    CheckIPHeader,
+    /// Puts an Ethernet header in front: the EtherType, the source and the destination address, each
+    /// address as 48 bits in network order.
+    EtherEncap(u16, u64, u64),
+    /// Lowers the time to live by one and sends the packet to output 0; one whose time has run out goes
+    /// unchanged to output 1.
+    DecIPTTL,
+    /// Writes the differentiated services code point, 0 to 63.
+    SetIPDSCP(u8),
+    /// Writes the address of one end, in network order.
+    StoreIPAddress(u32, End),
+    /// Sets the annotation to the destination address.
+    GetIPAddress,
+    /// Swaps the two ends: the addresses, and the ports where they are visible.
+    IPMirror,
 }

@@ -1,12 +1,20 @@
-//! What holds of the two shapes besides.
+//! What holds of every text that is read, and which texts are.
+ghost use Rattle.mt_elements.specs.Promises.{SmallIsAccepted};
 ghost use Rattle.mt_elements.specs.Spelling.{StraightIsRead, ClassifiedIsRead};
 
-/// A text of the first shape is read as its chain, with any names and any white space.
+/// The chain of a text is accepted: packets arrive on a device, each element takes the layers at which it
+/// is reached, and each of its outputs leads to a later element or is one that may lead nowhere.
+pub fn small_is_accepted()
+    ensures { SmallIsAccepted }
+{}
+
+/// A text whose tokens are a line of uses is read as that line, with any names and any white space.
 pub fn straight_is_read()
     ensures { StraightIsRead }
 {}
 
-/// A text of the second shape is read as its chain, with any names and any white space.
+/// A text whose tokens are those of the second shape is read as its chain, with any names, any two patterns
+/// and any white space.
 pub fn classified_is_read()
     ensures { ClassifiedIsRead }
 {}

@@ -1,0 +1,5 @@
+use Rattle.mt_elements.proofs.Acceptance.{all_accepted}
+use Rattle.mt_elements.proofs.laws.small_is_accepted.Goals as goal
+
+pub returns : goal.returns
+returns c = all_accepted
