@@ -1,0 +1,5 @@
+pub mod Pattern
+pub mod Step
+pub mod Run
+pub mod Kept
+pub mod Sequence

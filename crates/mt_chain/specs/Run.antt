@@ -1,0 +1,114 @@
+-- The run of one packet: from the element of its device along the wires to its fate.
+use Rattle.std.specs.Prelude.{◌≡◌, ℕ, zero, suc, ◌==◌, Bool, false, position, List, length, drop, Option, Some, None, slice_get, option_map, option_and_then, ⊤}
+use Rattle.mt_packet.specs.Packet.{PacketState}
+use Rattle.mt_packet.specs.declared.cause.Cause.{Cause}
+use Rattle.mt_packet.specs.declared.frame.Stamped.{Stamped}
+use Rattle.mt_elements.specs.declared.kind.Kind.{Kind}
+use Rattle.mt_elements.specs.declared.kind.Kind.TheVariants.{FromDevice}
+use Rattle.mt_elements.specs.Parts.{Parts}
+use Rattle.mt_elements.specs.Chain.{next_of}
+use Rattle.mt_chain.specs.declared.step.Step.{Step}
+use Rattle.mt_chain.specs.declared.step.Step.TheVariants.{Leaves, Sends, Drops}
+use Rattle.mt_chain.specs.declared.run.Fate.{Fate}
+use Rattle.mt_chain.specs.declared.run.Fate.TheVariants as fate
+use Rattle.mt_chain.specs.declared.run.Ran.{Ran}
+use Rattle.mt_chain.specs.declared.run.RunFault.{RunFault}
+use Rattle.mt_chain.specs.declared.run.RunFault.TheVariants.{BadPick, NoMemory}
+use Rattle.mt_chain.specs.declared.walk.Ending.{Ending}
+use Rattle.mt_chain.specs.declared.walk.Ending.TheVariants.{Sent, Dropped}
+use Rattle.mt_chain.specs.declared.walk.Move.{Move}
+use Rattle.mt_chain.specs.declared.walk.Move.TheVariants.{Goes, Ends}
+use Rattle.mt_chain.specs.Step.{stateless_step, unwired_cause}
+
+-- What the elements of a chain remember from one packet to the next: whose turn it is at each mapper.
+-- None of the elements that there are remembers anything.
+pub record TablesState : Type 0 where
+  pub turns : List ℕ
+
+-- a packet on its way, with what the chain remembers and the ports still to be picked
+pub record State : Type 0 where
+  pub packet : PacketState
+  pub tables : TablesState
+  pub picks : List ℕ
+
+-- the fate of a packet, and what its run leaves
+pub record Run : Type 0 where
+  pub fate : Fate
+  pub tables : TablesState
+  pub picks : List ℕ
+
+-- ---- one element
+
+abbrev pub with_packet : State → PacketState × Step → State × Step
+with_packet state after = (record state { packet = after.0 }, after.1)
+
+-- the step of an element on what comes to one of its inputs
+abbrev pub element_step : Kind → ℕ → State → Option (State × Step)
+element_step kind input state = option_map (with_packet state) (stateless_step kind state.packet)
+
+-- a packet at an output that leads there, or is dropped for that cause where it leads nowhere
+abbrev pub by_wire : Option (ℕ × ℕ) → Option Cause → Option Move
+by_wire (Some wire) why = Some (Goes wire.0 wire.1)
+by_wire None (Some why) = Some (Ends (Dropped why))
+by_wire None None = None
+
+-- where a step of an element leads: to an input of another element, or to the packet's end
+abbrev pub move_of : Parts → ℕ → Kind → Step → Option Move
+move_of chain element kind (Leaves out) = by_wire (next_of chain element out) (unwired_cause kind out)
+move_of chain element kind (Sends device) = Some (Ends (Sent device))
+move_of chain element kind (Drops why) = Some (Ends (Dropped why))
+
+-- ---- all of them
+
+-- the present bytes as a frame, with what came with it
+abbrev pub stamped_of : PacketState → Stamped
+stamped_of packet = record { stamp = packet.stamp; device = packet.device; number = packet.number; frame = packet.bytes }
+
+abbrev pub fate_of : PacketState → Ending → Fate
+fate_of packet (Sent device) = fate.Sent device (stamped_of packet)
+fate_of packet (Dropped why) = fate.Dropped why
+
+-- the run goes on where the packet goes, or is over
+abbrev pub follow : (ℕ × ℕ → State → Option Run) → State → Move → Option Run
+follow along state (Goes element input) = along (element, input) state
+follow along state (Ends ending) = Some (record { fate = fate_of state.packet ending; tables = state.tables; picks = state.picks })
+
+-- the run goes on behind a step of an element
+abbrev pub goes_on : Parts → ℕ → Kind → (ℕ × ℕ → State → Option Run) → State × Step → Option Run
+goes_on chain element kind along after = option_and_then (follow along after.0) (move_of chain element kind after.1)
+
+-- The run from an element and its input on. `most` is no less than the number of elements on the way.
+unfoldable pub run_from : ℕ → Parts → ℕ × ℕ → State → Option Run
+run_from zero chain place state = None
+run_from (suc most) chain place state =
+    option_and_then (λ kind. option_and_then (goes_on chain place.0 kind (run_from most chain)) (element_step kind place.1 state)) (slice_get chain.kinds place.0)
+
+abbrev pub is_entry : ℕ → Kind → Bool
+is_entry device (FromDevice number) = number == device
+is_entry device kind = false
+
+-- the element by which the packets of a device enter
+abbrev pub entry_of : Parts → ℕ → Option ℕ
+entry_of chain device = position (is_entry device) chain.kinds
+
+-- The run of a packet that arrives, from what the chain remembers and the ports to be picked to its fate,
+-- what the chain then remembers and the ports that are left. It has no value where a port that it needs
+-- is missing or is not free, or where the chain has no way for it.
+unfoldable pub run_packet : Parts → TablesState → PacketState → List ℕ → Option Run
+run_packet chain tables packet picks =
+    option_and_then (λ entry. run_from (length chain.kinds) chain (entry, 0) (record { packet = packet; tables = tables; picks = picks })) (entry_of chain packet.device)
+
+-- ---- what a call tells of it
+
+-- a run with that fate that took so many of the picks
+abbrev pub run_told : TablesState → List ℕ → Ran → Run
+run_told tables picks ran = record { fate = ran.fate; tables = tables; picks = drop ran.used picks }
+
+-- there is a value
+abbrev pub IsThere : {A : Type 0} → Option A → Type 0
+IsThere {A} found = (value : A) × (found ≡ Some value)
+
+-- why there was no run to its end
+abbrev pub RunCause : Option Run → RunFault → Type 0
+RunCause run (BadPick place) = run ≡ None
+RunCause run NoMemory = ⊤

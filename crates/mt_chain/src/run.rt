@@ -1,0 +1,101 @@
+//! The run of one packet along the wires of a chain.
+ghost use Rattle.std.specs.Prelude.{◌≡◌, ◌≤◌, Some, length, option_map, IfSome, IfOk, IfErr, OnErr};
+ghost use Rattle.mt_packet.specs.declared.layer.Layer.TheVariants as layer;
+ghost use Rattle.mt_chain.specs.Step.{IsSound};
+ghost use Rattle.mt_chain.specs.Kept.{ComesFrom};
+ghost use Rattle.mt_chain.specs.Run.{Run, run_packet, run_told, run_from, fate_of, entry_of, IsThere, RunCause};
+
+use crate::Tables;
+use crate::entry::entry_of;
+use crate::kinds::pass;
+use crate::walk::{Ending, Move, move_of};
+use mt_elements::Chain;
+use mt_packet::{Cause, Field, Packet, Stamped};
+
+/// What becomes of a packet.
+#[derive(Drop)]
+pub enum Fate {
+    /// It is sent on a device, numbered from 1, as this frame.
+    Sent(u32, Stamped),
+    /// It is dropped.
+    Dropped(Cause),
+}
+
+/// The fate of a packet, and how many of the picks its run took, from the first on.
+#[derive(Drop)]
+pub struct Ran {
+    pub fate: Fate,
+    pub used: usize,
+}
+
+/// Why there is no run.
+#[derive(Clone, Copy, Debug, PartialEq, Eq)]
+pub enum RunFault {
+    /// The pick at that place is missing or is not free.
+    BadPick(usize),
+    /// There was no memory.
+    NoMemory,
+}
+
+/// Runs a packet, as it arrives on a device of a chain, element by element to its fate. Such a packet
+/// always has a run, since a chain is accepted. `picks` are the ports to be picked, in their order; no element that there is
+/// picks one, so `BadPick` does not come. The tables are as before where there is a fault.
+#[tactic(auto, using(crate::proofs::Sound::at_frame), unfolding(crate::specs::Run::run_packet))]
+pub fn run_one(
+    chain: &Chain,
+    tables: &mut Tables,
+    packet: Packet,
+    picks: &[u16],
+) -> Result<Ran, RunFault>
+    requires arrived { packet.layer ≡ layer.Frame }
+    requires known { IsThere (entry_of chain.now packet.device) }
+    ensures run { IfOk result (λ ran. run_packet chain.now tables.old packet picks.now ≡ Some (run_told tables.new picks.now ran)) }
+    ensures always { (run : Run) × (run_packet chain.now tables.old packet picks.now ≡ Some run) × (length run.picks ≤ length picks.now) }
+    ensures sent { IfOk result (λ ran. ComesFrom packet ran.fate) }
+    ensures used { IfOk result (λ ran. ran.used ≤ length picks.now) }
+    ensures cause { IfErr result (RunCause (run_packet chain.now tables.old packet picks.now)) }
+    ensures unchanged { OnErr result (tables.new ≡ tables.old) }
+{
+    chain.is_accepted();
+    let Some(entry) = entry_of(chain, packet.field(Field::Device) as u32) else {
+        unreachable!();
+    };
+    match walk(chain, tables, packet, picks, entry) {
+        Some(ran) => Ok(ran),
+        None => unreachable!(),
+    }
+}
+
+/// Runs a packet from an element on. None where the chain has no way for it.
+fn walk(chain: &Chain, tables: &Tables, packet: Packet, picks: &[u16], entry: u32) -> Option<Ran>
+    requires sound { IsSound packet }
+    ensures run { option_map (λ ran. run_told tables.now picks.now ran) result ≡ run_from (length chain.now.kinds) chain.now (entry, 0) (record { packet = packet; tables = tables.now; picks = picks.now }) }
+    ensures used { IfSome result (λ ran. ran.used ≡ 0) }
+{
+    let mut packet = packet;
+    let mut place = (entry, 0);
+    for _ in 0..chain.elements() {
+        if place.0 >= chain.elements() {
+            return None;
+        }
+        let kind = chain.kind(place.0);
+        let step = pass(kind, &mut packet)?;
+        match move_of(chain, place.0, kind, step)? {
+            Move::Goes(element, input) => place = (element, input),
+            Move::Ends(ending) => return Some(ran_to(ending, packet)),
+        }
+    }
+    None
+}
+
+/// The run of a packet to that end, which took no pick.
+fn ran_to(ending: Ending, packet: Packet) -> Ran
+    ensures fate { result.fate ≡ fate_of packet ending }
+    ensures used { result.used ≡ 0 }
+{
+    let fate = match ending {
+        Ending::Sent(device) => Fate::Sent(device, packet.into_stamped()),
+        Ending::Dropped(cause) => Fate::Dropped(cause),
+    };
+    Ran { fate, used: 0 }
+}
