@@ -1,5 +1,5 @@
 -- A run answers what is due.
-use Rattle.std.proofs.Common.{◌≡◌, ◌≢◌, ◌⊎◌, inl, inr, ⊎_elim, ℕ, ◌<◌, ◌≤◌, Bool, true, false, cond, List, [], ◌∷◌, length, Option, Some, None, refl, sym, ◌∙◌, ap, subst, arith}
+use Rattle.std.proofs.Common.{◌≡◌, ◌⊎◌, inl, inr, ⊎_elim, ℕ, ◌<◌, ◌≤◌, true, false, List, [], ◌∷◌, length, Option, Some, None, refl, sym, ◌∙◌, ap, subst, arith}
 use Rattle.std.specs.Prelude.{IfSome, IsSomeAnd, nat_lt, if◌then◌else◌, option_map, option_and_then}
 use Rattle.std.proofs.lemmas.Bool.Decides.{nat_tests}
 use Rattle.mt_io.specs.Files.{Rose}
@@ -7,9 +7,9 @@ use Rattle.mt_elements.specs.Parts.{Parts}
 use Rattle.mt_pcap.specs.declared.fault.PcapFault.{PcapFault}
 use Rattle.mt_pcap.specs.Capture as captures
 use Rattle.metron.specs.Command.{Words, command_of}
-use Rattle.metron.specs.Inputs.{Told, chain_in, capture_limit, is_no_header, IsChainRead, IsScriptRead, IsCaptureRead, IsRefused, ChainFault, ScriptFault, CaptureFault}
+use Rattle.metron.specs.Inputs.{Told, chain_in, capture_limit, is_no_header, IsChainRead, IsScriptRead, IsCaptureRead, ChainFault, ScriptFault, CaptureFault}
 use Rattle.metron.specs.Serving.{ServeFault}
-use Rattle.metron.specs.Causes.{Held, State, binds, output_device, end_of, IsAtChain, IsAtScript, IsAtCapture, IsAtRun, IsUntouched, IsRun}
+use Rattle.metron.specs.Causes.{Held, State, binds, output_device, end_of, IsUntouched, IsRun}
 use Rattle.metron.specs.Causes.IsRun.{no_command, chain_refused, not_bound, script_refused, capture_refused, broken_off, ended}
 use Rattle.metron.specs.Due.{capture_due, script_due, bound_due, chain_due, command_due, due, IsInterruption, IsExact, NoneFailed, IsFinished, IsEarly}
 use Rattle.metron.specs.declared.outcome.FileId.TheVariants as file

@@ -1,6 +1,5 @@
-mod Positions
+mod Taken
 mod Names
-mod Ways
 mod Texts
 mod Runs
 mod Exact

@@ -1,20 +1,18 @@
 -- The parts of a run, one after the other, are one run.
-use Rattle.std.proofs.Common.{◌≡◌, ◌≢◌, ℕ, ◌<◌, ◌≤◌, true, List, [], length, Option, Some, None, refl, sym, ◌∙◌, ap, subst}
+use Rattle.std.proofs.Common.{◌≡◌, ℕ, ◌<◌, ◌≤◌, true, List, [], length, Some, sym, ◌∙◌, subst}
 use Rattle.std.specs.Prelude.{IfSome}
-use Rattle.mt_io.specs.Files.{Rose, IsSame, IsSameBut, NeverFell}
-use Rattle.mt_io.specs.Copy.{GainsFront}
+use Rattle.mt_io.specs.Files.{IsSame, IsSameBut, NeverFell}
 use Rattle.mt_io.proofs.Laws.{then_rose, same_twice, same_but_twice, same_but, never_fell_twice}
 use Rattle.mt_elements.specs.Parts.{Parts}
 use Rattle.mt_pcap.specs.Capture as captures
 use Rattle.metron.specs.Command.{Words, command_of, AreDistinct}
-use Rattle.metron.specs.Fates.{device_text}
-use Rattle.metron.specs.Inputs.{Told, capture_limit, IsChainRead, IsScriptRead, IsCaptureRead, IsRefused, ChainFault, ScriptFault, CaptureFault}
+use Rattle.metron.specs.Inputs.{Told, capture_limit, IsChainRead, IsScriptRead, IsCaptureRead, IsRefused, ScriptFault, CaptureFault}
 use Rattle.metron.specs.Serving.{HasServed, HasServedSome, ServeFault}
 use Rattle.metron.specs.Causes.{State, binds, output_device, IsAtChain, IsAtScript, IsAtCapture, IsAtRun, IsUntouched, IsRun, end_of}
-use Rattle.metron.specs.Causes.IsRun.{no_command, chain_refused, not_bound, script_refused, capture_refused, broken_off, ended}
+use Rattle.metron.specs.Causes.IsRun.{script_refused, capture_refused, broken_off, ended}
 use Rattle.metron.specs.declared.outcome.FileId.TheVariants as file
 use Rattle.metron.specs.declared.outcome.Fault.{Fault}
-use Rattle.metron.specs.declared.outcome.Fault.TheVariants.{Unbuilt, TooLong, Capture, Read, Write, Memory, UsageWord}
+use Rattle.metron.specs.declared.outcome.Fault.TheVariants.{Unbuilt, TooLong, Capture, Read, Write}
 
 -- ---- what was told before is told now, and a count that rose since did so since before
 
@@ -91,17 +89,14 @@ module _ (words : List (List ℕ)) (command : Words) (chain : Parts) (s0 s1 s2 s
           write_faults_before : NeverFell s0.failed_writes s3.failed_writes
           write_faults_before = never_fell_twice _ _ _ (never_fell_twice _ _ _ first.write_faults second.write_faults) third.write_faults
 
-          abbrev text_of : List (ℕ × List ℕ) → List ℕ
-          text_of = device_text (output_device chain) chain
-
           pub breaks_off : (fault : Fault) → ServeFault (output_device chain) (s3.failed_writes command.output) (s4.failed_writes command.output) fault
-              → HasServedSome text_of capture.records (s3.written command.output) (s4.written command.output) order → IsRun words s0 s4 order fault
+              → HasServedSome (output_device chain) chain capture.records (s3.written command.output) (s4.written command.output) order → IsRun words s0 s4 order fault
           breaks_off fault why served =
               broken_off command chain capture at_run (serve_earlier _ _ _ _ fault (write_faults_before command.output) why) others_since
-              (subst (λ (o : Told). HasServedSome text_of capture.records o (s4.written command.output) order) (written_before command.output) served)
+              (subst (λ (o : Told). HasServedSome (output_device chain) chain capture.records o (s4.written command.output) order) (written_before command.output) served)
 
           pub ends : (fault : Fault) → fault ≡ end_of capture.end
-              → HasServed text_of capture.records (s3.written command.output) (s4.written command.output) order → IsRun words s0 s4 order fault
+              → HasServed (output_device chain) chain capture.records (s3.written command.output) (s4.written command.output) order → IsRun words s0 s4 order fault
           ends fault end served =
               ended command chain capture at_run end others_since
-              (subst (λ (o : Told). HasServed text_of capture.records o (s4.written command.output) order) (written_before command.output) served)
+              (subst (λ (o : Told). HasServed (output_device chain) chain capture.records o (s4.written command.output) order) (written_before command.output) served)

@@ -9,7 +9,6 @@ use Rattle.mt_elements.specs.Parts.{Parts}
 use Rattle.mt_pcap.specs.declared.fault.PcapFault.{PcapFault}
 use Rattle.mt_pcap.specs.Capture as captures
 use Rattle.metron.specs.Command.{Words, command_of}
-use Rattle.metron.specs.Fates.{device_text}
 use Rattle.metron.specs.Inputs.{Told, IsChainRead, IsScriptRead, IsCaptureRead, ChainFault, ScriptFault, CaptureFault}
 use Rattle.metron.specs.Serving.{HasServed, HasServedSome, ServeFault}
 use Rattle.metron.specs.declared.outcome.Fault.{Fault}
@@ -106,11 +105,11 @@ pub data IsRun (words : List (List ℕ)) (old new : State) (order : List ℕ) (f
       (command : Words) (chain : Parts) (capture : captures.Capture) → IsAtRun words old.held command chain capture
       → ServeFault (output_device chain) (old.failed_writes command.output) (new.failed_writes command.output) fault
       → IsSameBut command.output old.written new.written
-      → HasServedSome (device_text (output_device chain) chain) capture.records (old.written command.output) (new.written command.output) order
+      → HasServedSome (output_device chain) chain capture.records (old.written command.output) (new.written command.output) order
       → IsRun words old new order fault
   ended :
       (command : Words) (chain : Parts) (capture : captures.Capture) → IsAtRun words old.held command chain capture
       → fault ≡ end_of capture.end
       → IsSameBut command.output old.written new.written
-      → HasServed (device_text (output_device chain) chain) capture.records (old.written command.output) (new.written command.output) order
+      → HasServed (output_device chain) chain capture.records (old.written command.output) (new.written command.output) order
       → IsRun words old new order fault

@@ -1,5 +1,5 @@
 -- The words of the command line.
-use Rattle.std.specs.Prelude.{◌≡◌, ◌≢◌, ℕ, ◌==◌, nat_eq, nat_lt, Bool, ◌&&◌, not, if◌then◌else◌, List, [], ◌∷◌, length, drop, codes, Option, Some, None, option_and_then}
+use Rattle.std.specs.Prelude.{◌≢◌, ℕ, ◌==◌, nat_eq, nat_lt, Bool, ◌&&◌, not, if◌then◌else◌, List, [], ◌∷◌, length, drop, codes, Option, Some, None, option_and_then}
 use Rattle.std.specs.List.{position_or_len, before_first, after_first, starts_with}
 use Rattle.std.specs.Str.{bytes_eq}
 use Rattle.metron.specs.declared.command.Command.{Command}

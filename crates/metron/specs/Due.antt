@@ -3,15 +3,13 @@ use Rattle.std.specs.Prelude.{◌≡◌, ◌⊎◌, ℕ, nat_lt, if◌then◌els
 use Rattle.mt_io.specs.Files.{Rose, IsSameBut}
 use Rattle.mt_elements.specs.Parts.{Parts}
 use Rattle.mt_pcap.specs.Capture as captures
-use Rattle.mt_pcap.specs.declared.fault.PcapFault.{PcapFault}
 use Rattle.metron.specs.Command.{Words, command_of}
-use Rattle.metron.specs.Fates.{device_text}
 use Rattle.metron.specs.Inputs.{Told, chain_in, capture_limit, is_no_header}
 use Rattle.metron.specs.Serving.{HasServed}
-use Rattle.metron.specs.Causes.{Held, State, binds, output_device, IsAtRun, IsUntouched, end_of}
+use Rattle.metron.specs.Causes.{Held, State, binds, output_device, IsAtRun, end_of}
 use Rattle.metron.specs.declared.outcome.FileId.TheVariants as file
 use Rattle.metron.specs.declared.outcome.Fault.{Fault}
-use Rattle.metron.specs.declared.outcome.Fault.TheVariants.{Done, UsageWord, Unbuilt, TooLong, Capture, Read, Write, Memory}
+use Rattle.metron.specs.declared.outcome.Fault.TheVariants.{UsageWord, Unbuilt, TooLong, Capture, Read, Write, Memory}
 
 -- ---- the answer
 
@@ -66,7 +64,7 @@ pub record IsFinished (words : List (List ℕ)) (old new : State) (order : List 
   pub stands : IsAtRun words old.held command chain capture
   pub sound : capture.end ≡ None
   pub others : IsSameBut command.output old.written new.written
-  pub served : HasServed (device_text (output_device chain) chain) capture.records (old.written command.output) (new.written command.output) order
+  pub served : HasServed (output_device chain) chain capture.records (old.written command.output) (new.written command.output) order
 
 -- faults that are met before anything is written
 abbrev pub IsEarly : Fault → Type 0

@@ -2,7 +2,6 @@
 #![tactic(auto)]
 
 mod command;
-mod fates;
 mod inputs;
 mod outcome;
 mod run;

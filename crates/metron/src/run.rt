@@ -15,6 +15,7 @@ use crate::serve::serve;
 use crate::{Fault, Outcome};
 use mt_elements::Chain;
 use mt_io::Files;
+use mt_pcap::WholeCapture;
 use std::alloc::Global;
 
 /// Runs the command that the words are, over files by name:
@@ -81,20 +82,13 @@ fn run<F: Files>(alloc: Global, words: &[String], files: &mut F, order: &mut Vec
         Ok(capture) => capture,
         Err(fault) => return fault,
     };
+    let WholeCapture { records, end } = capture;
     let device = output_device(&chain);
-    match serve(
-        alloc,
-        files,
-        command.output,
-        device,
-        &chain,
-        &capture.records,
-        order,
-    ) {
+    match serve(alloc, files, command.output, device, &chain, records, order) {
         Ok(()) => {}
         Err(fault) => return fault,
     }
-    match capture.end {
+    match end {
         None => Fault::Done,
         Some(why) => Fault::Capture(1, why),
     }

@@ -1,37 +1,39 @@
 //! Serving the frames of a capture, one after the other, and writing those that are sent.
-ghost use Rattle.std.specs.Prelude.{◌≡◌, ◌<◌, ◌≤◌, ◌/◌, ◌^◌, ◌++◌, [], length, All, OnOk, OnErr, IfErr};
-ghost use Rattle.mt_io.specs.Files.{Gains, IsSame, IsSameBut, NeverFell};
-ghost use Rattle.mt_io.specs.Copy.{GainsFront};
+ghost use Rattle.std.specs.Prelude.{◌≡◌, ◌<◌, ◌≤◌, ◌/◌, ◌^◌, [], length, All, OnOk, OnErr, IfErr, IfSome, None};
+ghost use Rattle.mt_io.specs.Files.{IsSame, IsSameBut, NeverFell};
+ghost use Rattle.mt_packet.specs.declared.layer.Layer.TheVariants as layer;
 ghost use Rattle.mt_pcap.specs.Text.{record_text};
-ghost use Rattle.metron.specs.Fates.{device_text, is_sent_on};
-ghost use Rattle.metron.specs.Serving.{ServeFault, HasServed, HasServedSome, text_of_one};
+ghost use Rattle.mt_chain.specs.Run.{IsThere, entry_of};
+ghost use Rattle.mt_chain.specs.declared.run.Fate.TheVariants as fates;
+ghost use Rattle.metron.specs.Fates.{records_sent};
+ghost use Rattle.metron.specs.Serving.{ServeFault, HasServed, HasServedSome, HasServedOne, HasBrokenOff};
 
-use crate::fates::{Fate, fate_of};
 use crate::{Fault, FileId};
+use mt_chain::{Fate, Tables, run_one};
 use mt_elements::Chain;
 use mt_io::{Files, write_all};
-use mt_packet::Frame;
+use mt_packet::{Frame, Packet, Stamped};
 use mt_pcap::{header, record_head};
 use std::alloc::{AllocError, Global};
 
-/// Serves the records in their order and writes a capture of those that are sent on a device. The
-/// numbers of the frames that were served are put behind `order`.
+/// Serves the records in their order, as frames that arrive on device 1, and writes a capture of what is
+/// sent on a device. The numbers of the frames that were served are put behind `order`.
 pub(crate) fn serve<F: Files>(
     alloc: Global,
     files: &mut F,
     output: &str,
     device: u32,
     chain: &Chain,
-    records: &[(u64, Frame)],
+    records: Vec<(u64, Frame)>,
     order: &mut Vec<u32>,
 ) -> Result<(), Fault>
-    requires seconds_fit { All (λ r. r.0 / 1000000000 < 2 ^ 32) records.now }
-    requires lengths { All (λ r. length r.1 ≤ 262144) records.now }
-    requires few { length records.now < 2 ^ 32 }
+    requires seconds_fit { All (λ r. r.0 / 1000000000 < 2 ^ 32) records.items }
+    requires lengths { All (λ r. length r.1 ≤ 262144) records.items }
+    requires few { length records.items < 2 ^ 32 }
     requires first { order.old.items ≡ [] }
-    ensures ok { OnOk result (HasServed (device_text device chain.now) records.now
+    ensures ok { OnOk result (HasServed device chain.now records.items
         (F.written files.old output.now) (F.written files.new output.now) order.new.items) }
-    ensures err { OnErr result (HasServedSome (device_text device chain.now) records.now
+    ensures err { OnErr result (HasServedSome device chain.now records.items
         (F.written files.old output.now) (F.written files.new output.now) order.new.items) }
     ensures cause { IfErr result (ServeFault device (F.write_faults files.old output.now) (F.write_faults files.new output.now)) }
 
@@ -44,35 +46,58 @@ pub(crate) fn serve<F: Files>(
         Ok(()) => {}
         Err(_) => return Err(Fault::Write(FileId::Output(device))),
     }
+    chain.is_accepted();
+    let mut tables = match Tables::new(alloc, chain) {
+        Ok(tables) => tables,
+        Err(_) => return Err(Fault::Memory),
+    };
     let mut piece = Vec::new(alloc);
-    for (number, record) in records.iter().enumerate() {
-        match order.push(number as u32) {
+    let mut number = 0u32;
+    for (stamp, frame) in records {
+        match order.push(number) {
             Ok(()) => {}
             Err(_) => return Err(Fault::Memory),
         }
-        match serve_one(files, output, device, chain, record, &mut piece) {
+        let packet = Packet::new(Stamped {
+            stamp,
+            device: 1,
+            number,
+            frame,
+        });
+        match serve_one(
+            files,
+            output,
+            device,
+            chain,
+            &mut tables,
+            packet,
+            &mut piece,
+        ) {
             Ok(()) => {}
             Err(fault) => return Err(fault),
         }
+        number += 1;
     }
     Ok(())
 }
 
-/// Serves one record, and writes it where its frame is sent on the device. `piece` is room for what is
+/// Runs one packet through the chain, and writes what it sends on the device. `piece` is room for what is
 /// written.
-#[tactic(auto, unfolding(crate::specs::Serving::text_of_one))]
 fn serve_one<F: Files>(
     files: &mut F,
     output: &str,
     device: u32,
     chain: &Chain,
-    arrival: &(u64, Frame),
+    tables: &mut Tables,
+    packet: Packet,
     piece: &mut Vec<u8>,
 ) -> Result<(), Fault>
-    requires seconds_fit { arrival.now.0 / 1000000000 < 2 ^ 32 }
-    requires length { length arrival.now.1 ≤ 262144 }
-    ensures ok { OnOk result (Gains (F.written files.old output.now) (text_of_one device chain.now arrival.now) (F.written files.new output.now)) }
-    ensures err { OnErr result (GainsFront (F.written files.old output.now) (text_of_one device chain.now arrival.now) (F.written files.new output.now)) }
+    requires arrived { packet.layer ≡ layer.Frame }
+    requires known { IsThere (entry_of chain.now packet.device) }
+    requires seconds_fit { packet.stamp / 1000000000 < 2 ^ 32 }
+    requires length { length packet.bytes ≤ 262144 }
+    ensures ok { OnOk result (HasServedOne device chain.now tables.old tables.new packet (F.written files.old output.now) (F.written files.new output.now)) }
+    ensures err { OnErr result (HasBrokenOff device chain.now tables.old packet (F.written files.old output.now) (F.written files.new output.now)) }
     ensures cause { IfErr result (ServeFault device (F.write_faults files.old output.now) (F.write_faults files.new output.now)) }
 
     ensures other_files { IsSameBut output.now (F.written files.old) (F.written files.new) }
@@ -80,11 +105,16 @@ fn serve_one<F: Files>(
     ensures read_faults { NeverFell (F.read_faults files.old) (F.read_faults files.new) }
     ensures write_faults { NeverFell (F.write_faults files.old) (F.write_faults files.new) }
 {
-    if !is_sent_on(device, fate_of(chain, &arrival.1)) {
+    let ran = match run_one(chain, tables, packet, &[]) {
+        Ok(ran) => ran,
+        Err(_) => return Err(Fault::Memory),
+    };
+    let Some(sent) = sent_on(device, ran.fate) else {
         return Ok(());
-    }
-    if fill(piece, arrival).is_err() {
-        return Err(Fault::Memory);
+    };
+    match fill(piece, &sent) {
+        Ok(()) => {}
+        Err(_) => return Err(Fault::Memory),
     }
     match write_all(files, output, piece) {
         Ok(()) => Ok(()),
@@ -92,24 +122,26 @@ fn serve_one<F: Files>(
     }
 }
 
-fn is_sent_on(device: u32, fate: Option<Fate>) -> bool
-    ensures { result ≡ is_sent_on device fate }
+/// What is sent on a device, if something is.
+fn sent_on(device: u32, fate: Fate) -> Option<Stamped>
+    ensures sent { IfSome result (λ sent. fate ≡ fates.Sent device sent) }
+    ensures none { result ≡ None → records_sent device fate ≡ [] }
 {
     match fate {
-        Some(Fate::Sent(number)) => number == device,
-        _ => false,
+        Fate::Sent(on, sent) if on == device => Some(sent),
+        _ => None,
     }
 }
 
 /// Puts the text of a record into a piece.
-fn fill(piece: &mut Vec<u8>, arrival: &(u64, Frame)) -> Result<(), AllocError>
-    requires seconds_fit { arrival.now.0 / 1000000000 < 2 ^ 32 }
-    requires length { length arrival.now.1 ≤ 262144 }
-    ensures { OnOk result (piece.new.items ≡ record_text arrival.now) }
+fn fill(piece: &mut Vec<u8>, sent: &Stamped) -> Result<(), AllocError>
+    requires seconds_fit { sent.now.stamp / 1000000000 < 2 ^ 32 }
+    requires length { length sent.now.frame ≤ 262144 }
+    ensures { OnOk result (piece.new.items ≡ record_text (sent.now.stamp, sent.now.frame)) }
 {
-    let bytes = arrival.1.bytes();
+    let bytes = sent.frame.bytes();
     piece.clear();
-    piece.extend_from_slice(&record_head(arrival.0, bytes.len() as u32))?;
+    piece.extend_from_slice(&record_head(sent.stamp, bytes.len() as u32))?;
     piece.extend_from_slice(bytes)?;
     Ok(())
 }

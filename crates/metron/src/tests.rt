@@ -11,6 +11,14 @@ const STRAIGHT: &str = "FromDevice(a) -> ToDevice(b);";
 const IPV4: &str =
     "FromDevice(a) -> c :: Classifier(12/0800, -); c[0] -> ToDevice(b); c[1] -> Discard;";
 
+// The packet of each frame behind another Ethernet header.
+const FORWARD: &str = "FromDevice(a) -> Strip(14) -> CheckIPHeader
+    -> EtherEncap(0x0800, 02:00:00:00:00:0a, 02:00:00:00:00:0b) -> ToDevice(b);";
+
+// The same with one hop less to live.
+const ROUTER: &str = "FromDevice(a) -> Strip(14) -> CheckIPHeader -> DecIPTTL
+    -> EtherEncap(0x0800, 02:00:00:00:00:0a, 02:00:00:00:00:0b) -> ToDevice(b);";
+
 const WORDS: [&str; 5] = ["run", "chain", "script", "in:a=in", "out:b=out"];
 
 // Little-endian, times in nanoseconds, version 2.4, snaplen 262,144, Ethernet.
@@ -24,6 +32,20 @@ const UDP: [u8; 46] = [
     0x02, 0x00, 0x00, 0x00, 0x00, 0x02, 0x02, 0x00, 0x00, 0x00, 0x00, 0x01, 0x08, 0x00, 0x45, 0x00,
     0x00, 0x20, 0x00, 0x01, 0x00, 0x00, 0x40, 0x11, 0x46, 0x8b, 0x0a, 0x00, 0x00, 0x05, 0xc6, 0x33,
     0x64, 0x09, 0x13, 0x88, 0x00, 0x35, 0x00, 0x0c, 0xf3, 0x10, 0x61, 0x62, 0x63, 0x64,
+];
+
+// A TCP packet from 10.0.0.5:5000 to 198.51.100.9:80 with the wrong checksum 1234, and 6 bytes of zero
+// behind it.
+const PADDED: [u8; 60] = [
+    0x02, 0x00, 0x00, 0x00, 0x00, 0x02, 0x02, 0x00, 0x00, 0x00, 0x00, 0x01, 0x08, 0x00, 0x45, 0x00,
+    0x00, 0x28, 0x00, 0x02, 0x00, 0x00, 0x40, 0x06, 0x46, 0x8d, 0x0a, 0x00, 0x00, 0x05, 0xc6, 0x33,
+    0x64, 0x09, 0x13, 0x88, 0x00, 0x50, 0x00, 0x00, 0x00, 0x01, 0x00, 0x00, 0x00, 0x00, 0x50, 0x02,
+    0x20, 0x00, 0x12, 0x34, 0x00, 0x00, 0, 0, 0, 0, 0, 0,
+];
+
+// The Ethernet header that `FORWARD` and `ROUTER` put in front.
+const ETHERNET: [u8; 14] = [
+    0x02, 0x00, 0x00, 0x00, 0x00, 0x0b, 0x02, 0x00, 0x00, 0x00, 0x00, 0x0a, 0x08, 0x00,
 ];
 
 // An ARP request for 10.0.0.1.
@@ -113,6 +135,51 @@ fn a_classifier_keeps_one_frame_of_two(rt: HostRuntime) -> Result<(), Fail> {
 }
 
 #[test]
+fn what_follows_a_packet_is_cut_off(rt: HostRuntime) -> Result<(), Fail> {
+    let capture = joined(rt.alloc(), &[&HEADER, &head(1, 60), &PADDED])?;
+    let mut files = files(rt.alloc(), FORWARD, &capture)?;
+    let outcome = run(rt.alloc(), &mut files)?;
+    check(&rt, &outcome, 0, Fault::Done, &[0]);
+    let wanted = joined(
+        rt.alloc(),
+        &[&HEADER, &head(1, 54), &ETHERNET, &PADDED[14..54]],
+    )?;
+    assert_eq!(rt; files.written("out"), wanted.as_slice());
+    Ok(())
+}
+
+// The UDP packet with that time to live and the first byte of its header checksum.
+fn with_time_to_live(time_to_live: u8, checksum: u8) -> [u8; 46] {
+    let mut frame = UDP;
+    frame[22] = time_to_live;
+    frame[24] = checksum;
+    frame
+}
+
+#[test]
+fn a_router_drops_packets_at_their_last_hop(rt: HostRuntime) -> Result<(), Fail> {
+    let capture = joined(
+        rt.alloc(),
+        &[
+            &HEADER,
+            &head(1, 46),
+            &with_time_to_live(2, 0x84),
+            &head(2, 46),
+            &with_time_to_live(1, 0x85),
+            &head(3, 46),
+            &with_time_to_live(0, 0x86),
+        ],
+    )?;
+    let mut files = files(rt.alloc(), ROUTER, &capture)?;
+    let outcome = run(rt.alloc(), &mut files)?;
+    check(&rt, &outcome, 0, Fault::Done, &[0, 1, 2]);
+    let sent = with_time_to_live(1, 0x85);
+    let wanted = joined(rt.alloc(), &[&HEADER, &head(1, 46), &ETHERNET, &sent[14..]])?;
+    assert_eq!(rt; files.written("out"), wanted.as_slice());
+    Ok(())
+}
+
+#[test]
 fn frames_stay_in_their_order(rt: HostRuntime) -> Result<(), Fail> {
     let capture = joined(
         rt.alloc(),
@@ -161,9 +228,15 @@ fn a_refused_input_leaves_nothing_written(rt: HostRuntime) -> Result<(), Fail> {
     let other_link = [
         0xa1, 0xb2, 0xc3, 0xd4, 0, 2, 0, 4, 0, 0, 0, 0, 0, 0, 0, 0, 0, 0, 0xff, 0xff, 0, 0, 0, 113,
     ];
-    let cases: [(&str, &[u8], u8, Fault); 5] = [
+    let cases: [(&str, &[u8], u8, Fault); 6] = [
         (
-            "FromDevice(a) -> Null -> ToDevice(b);",
+            "FromDevice(a) -> Foo -> ToDevice(b);",
+            &HEADER,
+            2,
+            Fault::Unbuilt(FileId::Chain),
+        ),
+        (
+            "FromDevice(a) -> DecIPTTL -> ToDevice(b);",
             &HEADER,
             2,
             Fault::Unbuilt(FileId::Chain),

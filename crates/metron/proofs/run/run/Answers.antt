@@ -1,9 +1,8 @@
-use Rattle.std.proofs.Common.{◌≡◌, ℕ, List, refl, sym, ◌∙◌, ap, subst, map}
+use Rattle.std.proofs.Common.{refl, sym, ◌∙◌, ap, subst, map}
 use Rattle.std.specs.String.{string_bytes}
-use Rattle.metron.specs.Causes.{State, state_of, output_device, end_of}
+use Rattle.metron.specs.Causes.{State, state_of, end_of}
 use Rattle.metron.specs.Causes.IsRun.{chain_refused, not_bound}
 use Rattle.metron.specs.Command.{view}
-use Rattle.metron.specs.Fates.{device_text}
 use Rattle.metron.specs.Serving.{HasServed, HasServedSome, ServeFault}
 use Rattle.metron.specs.Inputs.{capture_seen}
 use Rattle.metron.proofs.Runs.{HasRead, at_chain, stops_at_script, stops_at_capture, breaks_off, ends}
@@ -61,8 +60,7 @@ returns-in-Err-serve g c =
     (sym c.binds.ensures ∙ c.if-not-binds.false) read2 c.in-Ok-read_script.ensures.ok read3 (capture_seen c.in-Ok-read_capture.capture) c.in-Ok-read_capture.ensures.ok c.serve.ensures.other_files
     c.in-Err-serve.fault
     (subst (λ d. ServeFault d (g.F.Files.write_faults c.read_capture.new.files c.in-Some.command.output.now) (g.F.Files.write_faults c.serve.new.files c.in-Some.command.output.now) c.in-Err-serve.fault) c.output_device-device.ensures c.in-Err-serve.ensures.cause)
-    (subst (λ d. HasServedSome (device_text d c.in-Ok.chain) c.in-Ok-read_capture.capture.records.items (g.F.Files.written c.read_capture.new.files c.in-Some.command.output.now) (g.F.Files.written c.serve.new.files c.in-Some.command.output.now) c.serve.new.order.items) c.output_device-device.ensures
-    (subst (λ (r : List (ℕ × List ℕ)). HasServedSome (device_text c.output_device-device.result c.in-Ok.chain) r (g.F.Files.written c.read_capture.new.files c.in-Some.command.output.now) (g.F.Files.written c.serve.new.files c.in-Some.command.output.now) c.serve.new.order.items) c.deref.ensures.value c.in-Err-serve.ensures.err))
+    (subst (λ d. HasServedSome d c.in-Ok.chain c.in-Ok-read_capture.capture.records.items (g.F.Files.written c.read_capture.new.files c.in-Some.command.output.now) (g.F.Files.written c.serve.new.files c.in-Some.command.output.now) c.serve.new.order.items) c.output_device-device.ensures c.in-Err-serve.ensures.err)
 
 pub returns-in-None : goal.returns-in-None
 returns-in-None g c =
@@ -78,8 +76,7 @@ returns-in-None g c =
     ends words (view c.in-Some.command) c.in-Ok.chain s0 s1 s2 s3 s4 c.serve.new.order.items c.in-Some.ensures.value c.in-Some.ensures.distinct c.in-Ok.ensures.ok read1
     (sym c.binds.ensures ∙ c.if-not-binds.false) read2 c.in-Ok-read_script.ensures.ok read3 (capture_seen c.in-Ok-read_capture.capture) c.in-Ok-read_capture.ensures.ok c.serve.ensures.other_files
     _ (sym (ap end_of c.in-None.is))
-    (subst (λ d. HasServed (device_text d c.in-Ok.chain) c.in-Ok-read_capture.capture.records.items (g.F.Files.written c.read_capture.new.files c.in-Some.command.output.now) (g.F.Files.written c.serve.new.files c.in-Some.command.output.now) c.serve.new.order.items) c.output_device-device.ensures
-    (subst (λ (r : List (ℕ × List ℕ)). HasServed (device_text c.output_device-device.result c.in-Ok.chain) r (g.F.Files.written c.read_capture.new.files c.in-Some.command.output.now) (g.F.Files.written c.serve.new.files c.in-Some.command.output.now) c.serve.new.order.items) c.deref.ensures.value c.in-Ok-serve.ensures.ok))
+    (subst (λ d. HasServed d c.in-Ok.chain c.in-Ok-read_capture.capture.records.items (g.F.Files.written c.read_capture.new.files c.in-Some.command.output.now) (g.F.Files.written c.serve.new.files c.in-Some.command.output.now) c.serve.new.order.items) c.output_device-device.ensures c.in-Ok-serve.ensures.ok)
 
 pub returns : goal.returns
 returns g c =
@@ -95,5 +92,4 @@ returns g c =
     ends words (view c.in-Some.command) c.in-Ok.chain s0 s1 s2 s3 s4 c.serve.new.order.items c.in-Some.ensures.value c.in-Some.ensures.distinct c.in-Ok.ensures.ok read1
     (sym c.binds.ensures ∙ c.if-not-binds.false) read2 c.in-Ok-read_script.ensures.ok read3 (capture_seen c.in-Ok-read_capture.capture) c.in-Ok-read_capture.ensures.ok c.serve.ensures.other_files
     _ (sym (ap end_of c.in-Some-end.is))
-    (subst (λ d. HasServed (device_text d c.in-Ok.chain) c.in-Ok-read_capture.capture.records.items (g.F.Files.written c.read_capture.new.files c.in-Some.command.output.now) (g.F.Files.written c.serve.new.files c.in-Some.command.output.now) c.serve.new.order.items) c.output_device-device.ensures
-    (subst (λ (r : List (ℕ × List ℕ)). HasServed (device_text c.output_device-device.result c.in-Ok.chain) r (g.F.Files.written c.read_capture.new.files c.in-Some.command.output.now) (g.F.Files.written c.serve.new.files c.in-Some.command.output.now) c.serve.new.order.items) c.deref.ensures.value c.in-Ok-serve.ensures.ok))
+    (subst (λ d. HasServed d c.in-Ok.chain c.in-Ok-read_capture.capture.records.items (g.F.Files.written c.read_capture.new.files c.in-Some.command.output.now) (g.F.Files.written c.serve.new.files c.in-Some.command.output.now) c.serve.new.order.items) c.output_device-device.ensures c.in-Ok-serve.ensures.ok)
