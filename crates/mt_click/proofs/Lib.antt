@@ -20,3 +20,4 @@ pub mod Feeds
 pub mod Within
 pub mod Order
 pub mod Places
+pub mod OneList

@@ -1,4 +1,4 @@
--- The elements of a text.
+-- What a text builds, and its elements.
 use Rattle.std.specs.Prelude.{ℕ, List, Result, Ok}
 use Rattle.mt_click.specs.declared.element.Element.{Element}
 use Rattle.mt_click.specs.declared.fault.Fault.{Fault}

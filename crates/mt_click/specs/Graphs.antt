@@ -34,3 +34,7 @@ Builds text (Err (errors.Fault f)) = built_in text ≡ Err f
 -- wires join elements that are there
 abbrev pub AreWithin : ℕ → List Wire → Type 0
 AreWithin count wires = (w : Wire) → Contains wires w → (w.from < count) × (w.to < count)
+
+-- no other graph is one of the text
+abbrev pub IsOnly : List ℕ → Graph → Type 0
+IsOnly text g = (other : Graph) → IsGraph text other → (other.elements.items ≡ g.elements.items) × (other.wires.items ≡ g.wires.items)

@@ -89,11 +89,12 @@ counting_of u (Some k) = moments.Count k u ∷ []
 unfoldable pub counting : Names → Scope → Use → List Moment
 counting names s u = counting_of u (class_named names s u.class)
 
--- an element or a use of a class comes
+-- where what a use makes is declared: at its name, or else at its class
 abbrev pub own_place : Option Word → Use → ℕ
 own_place None u = u.class.from
 own_place (Some w) u = w.from
 
+-- an element or a use of a class comes
 abbrev pub making_of : Option Word → Use → Option ℕ → Moment
 making_of name u None = moments.Element name u
 making_of name u (Some k) = moments.Enter k u (own_place name u)
@@ -163,12 +164,14 @@ item_side names s border port (items.Declared w u) = Some (sides.Made w.from por
 item_side names s border port (items.Made u) = Some (sides.Made u.class.from port)
 item_side names s border port (items.Name w) = name_side names s border port w
 
+-- what a connection leaves at an end, with the end's output port, and what it comes to, with the input port
 unfoldable pub source : Names → Scope → End → Option Side
 source names s e = item_side names s (codes "input") (number_of e.output) e.item
 
 unfoldable pub sink : Names → Scope → End → Option Side
 sink names s e = item_side names s (codes "output") (number_of e.input) e.item
 
+-- what a connection leaves that stands behind a part
 unfoldable pub side_behind : Names → Scope → Part → Option Side
 side_behind names s (parts.First e) = source names s e
 side_behind names s (parts.Next arrow e) = source names s e

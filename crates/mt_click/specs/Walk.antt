@@ -138,7 +138,7 @@ abbrev pub place_in : List ℕ → List (List Moment) → Place → Entered → 
 place_in text bodies p e = record { numbers = p.numbers ++ e.number ∷ []; bindings = bound text (body_of bodies e.class) e.arguments; around = e.around }
 
 abbrev pub Walked : Type 0
-Walked = Result (State) Fault
+Walked = Result State Fault
 
 -- a use of a class is walked where one comes
 abbrev pub entering : (Place → Entered → State → Walked) → Place → Moved → Walked
@@ -180,6 +180,6 @@ walk_all text bodies known inside (m ∷ ms) es =
     if inside then walk_all text bodies known true ms es
     else moved text bodies top es m >>= λ r. entering (enter text bodies known) top r >>= λ more. walk_all text bodies known false ms more
 
--- the elements of a configuration of these moments
+-- what a configuration of these moments builds
 abbrev pub walked : List ℕ → List Moment → Walked
 walked text ms = walk_all text (bodies_in ms) 0 false ms empty

@@ -1,6 +1,6 @@
 //! From a text to its graph.
 ghost use Rattle.std.specs.Prelude.{◌≤◌, length, IfOk};
-ghost use Rattle.mt_click.specs.Graphs.{Parses, Builds, AreWithin};
+ghost use Rattle.mt_click.specs.Graphs.{Parses, Builds, IsOnly, AreWithin};
 
 use crate::fault::{ClickFault, ClickWhy, ReadError};
 use crate::flat::expanded;
@@ -34,6 +34,8 @@ pub fn parse(alloc: Global, text: &[u8]) -> Result<Graph, ClickFault>
     requires { length text.now ≤ 1048576 }
     // The graph, or the first fault at its line and column, unless memory runs out.
     ensures exact { Parses text.now result }
+    // No other graph is one of the text.
+    ensures only { IfOk result (λ g. IsOnly text.now g) }
     // There are at most 512 elements.
     ensures few { IfOk result (λ g. length g.elements.items ≤ 512) }
     // Wires join elements that are there.
