@@ -8,7 +8,7 @@ use Rattle.std.proofs.lemmas.Bool.{eqb-true}
 use Rattle.std.proofs.lemmas.Slice.Eq.{bytes_eq-Decides}
 use Rattle.std.proofs.lemmas.List.{at_drop_more}
 use Rattle.mt_click.specs.declared.table.Entry.{Entry}
-use Rattle.mt_click.specs.Words.{bytes_of}
+use Rattle.mt_syntax.specs.Words.{bytes_of}
 use Rattle.mt_click.specs.Names.{is_entry, first_from, first_entry}
 use Rattle.mt_click.specs.Tables.{is_key}
 use Rattle.indexmap.specs.IndexMap.{insert_entry}

@@ -1,5 +1,5 @@
 -- A walk makes at most 512 elements, and what it makes are elements that are there and uses.
-use Rattle.std.proofs.Common.{◌≡◌, ℕ, zero, suc, ◌+◌, ◌<◌, ◌≤◌, List, [], ◌∷◌, ◌++◌, length, cond, nat_lt, Bool, true, false, Option, Some, None, Result, Ok, Err, refl, sym, subst, inl, inr, arith}
+use Rattle.std.proofs.Common.{◌≡◌, ℕ, zero, suc, ◌+◌, ◌<◌, ◌≤◌, List, [], ◌∷◌, ◌++◌, length, cond, nat_le, nat_lt, Bool, true, false, Option, Some, None, Result, Ok, Err, refl, sym, subst, inl, inr, arith}
 use Rattle.std.specs.List.{Contains}
 use Rattle.std.proofs.lemmas.List.Elements.{Contains-push_cases}
 use Rattle.mt_click.specs.declared.built.Thing.{Thing}
@@ -9,18 +9,19 @@ use Rattle.mt_click.specs.declared.moment.Side.{Side}
 use Rattle.std.proofs.lemmas.List.{length-append}
 use Rattle.std.proofs.Math.Dec.{eqb}
 use Rattle.std.proofs.lemmas.Bool.Decides.{nat_tests}
-use Rattle.mt_click.specs.declared.fault.Fault.{Fault}
-use Rattle.mt_click.specs.declared.fault.ClickWhy.TheVariants as whys
-use Rattle.mt_click.specs.declared.part.Part.{Part}
-use Rattle.mt_click.specs.declared.part.Word.{Word}
-use Rattle.mt_click.specs.declared.part.Use.{Use}
+use Rattle.mt_syntax.specs.declared.fault.Fault.{Fault}
+use Rattle.mt_syntax.specs.declared.fault.ClickWhy.TheVariants as whys
+use Rattle.mt_syntax.specs.declared.part.Part.{Part}
+use Rattle.mt_syntax.specs.declared.part.Word.{Word}
+use Rattle.mt_syntax.specs.declared.part.Use.{Use}
 use Rattle.mt_click.specs.declared.moment.Moment.{Moment}
 use Rattle.mt_click.specs.declared.moment.Moment.TheVariants as moments
 use Rattle.mt_click.specs.declared.walk.Entered.{Entered}
-use Rattle.mt_click.specs.Reading.{◌>>=◌, parts_in}
+use Rattle.mt_syntax.specs.Reading.{◌>>=◌, parts_in}
 use Rattle.mt_click.specs.Moments.{wrong, moments_in}
-use Rattle.mt_click.specs.Elements.{built_in}
-use Rattle.mt_click.specs.Walk.{Place, State, with_element, with_use, with_join, empty, Moved, Walked, walk, walk_all, walked, enter, entering, moved, body_of, bodies_in, place_in, counted, element_moved, entered, element_of, known_names, arguments_in, top}
+use Rattle.mt_click.specs.Building.{built_in}
+use Rattle.mt_click.specs.Elements.{Place, State, with_element, with_use, with_join, empty, element_of, arguments_in, top}
+use Rattle.mt_click.specs.Walk.{Moved, Walked, walk, walk_all, walked, enter, entering, moved, body_of, bodies_in, place_in, counted, roomed, element_moved, entered, known_names}
 
 -- an element that is there
 abbrev pub IsThere : ℕ → Thing → Type 0
@@ -77,14 +78,19 @@ one_more true f a text p es name u q h =
     kept a (with_element text p es name u) None (few_element text p es name u less h)
 one_more false f a text p es name u q h = tt
 
+enough : (b : Bool) (es : State) (f : Fault) → Few es → AreFew (cond b (Ok (es, None)) (Err f))
+enough true es f h = h
+enough false es f h = tt
+
 few_moved : (text : List ℕ) (all : List (List Moment)) (p : Place) (es : State) (m : Moment) → Few es → AreFew (moved text all p es m)
-unfolding moved element_moved entered
+unfolding moved roomed element_moved entered
 few_moved text all p es moments.Class h = h
 few_moved text all p es (moments.Parameter w) h = h
 few_moved text all p es moments.Close h = h
 few_moved text all p es (moments.Name f) h = h
 few_moved text all p es (moments.Port f) h = tt
 few_moved text all p es (moments.Count k u) h = kept (counted text all p.bindings k u) es None h
+few_moved text all p es (moments.Room n u) h = enough (nat_le (length es.elements + n) 512) es (wrong whys.TooManyElements u.class.from) h
 few_moved text all p es (moments.Element name u) h =
     one_more (nat_lt (length es.elements) 512) (wrong whys.TooManyElements u.class.from) (known_names text p.bindings u) text p es name u refl h
 few_moved text all p es (moments.Enter k u place) h = kept (known_names text p.bindings u) (with_use p es place) (Some (record { class = k; number = length es.elements; around = length es.made + 1; arguments = arguments_in text p.bindings u })) (few_use p es place h)
@@ -115,6 +121,7 @@ few_walk text all inner keeps p (moments.Parameter w ∷ ms) es h = few_on (move
 few_walk text all inner keeps p (moments.Name f ∷ ms) es h = few_on (moved text all p es (moments.Name f)) inner p (walk text all inner p ms) (few_moved text all p es (moments.Name f) h) keeps (λ more k. few_walk text all inner keeps p ms more k)
 few_walk text all inner keeps p (moments.Port f ∷ ms) es h = few_on (moved text all p es (moments.Port f)) inner p (walk text all inner p ms) (few_moved text all p es (moments.Port f) h) keeps (λ more k. few_walk text all inner keeps p ms more k)
 few_walk text all inner keeps p (moments.Count k u ∷ ms) es h = few_on (moved text all p es (moments.Count k u)) inner p (walk text all inner p ms) (few_moved text all p es (moments.Count k u) h) keeps (λ more k. few_walk text all inner keeps p ms more k)
+few_walk text all inner keeps p (moments.Room n u ∷ ms) es h = few_on (moved text all p es (moments.Room n u)) inner p (walk text all inner p ms) (few_moved text all p es (moments.Room n u) h) keeps (λ more k. few_walk text all inner keeps p ms more k)
 few_walk text all inner keeps p (moments.Element name u ∷ ms) es h = few_on (moved text all p es (moments.Element name u)) inner p (walk text all inner p ms) (few_moved text all p es (moments.Element name u) h) keeps (λ more k. few_walk text all inner keeps p ms more k)
 few_walk text all inner keeps p (moments.Join arrow from to ∷ ms) es h = few_on (moved text all p es (moments.Join arrow from to)) inner p (walk text all inner p ms) (few_moved text all p es (moments.Join arrow from to) h) keeps (λ more k. few_walk text all inner keeps p ms more k)
 few_walk text all inner keeps p (moments.Enter k u place ∷ ms) es h = few_on (moved text all p es (moments.Enter k u place)) inner p (walk text all inner p ms) (few_moved text all p es (moments.Enter k u place) h) keeps (λ more k. few_walk text all inner keeps p ms more k)
@@ -146,6 +153,7 @@ few_all text all (moments.Name f ∷ ms) known inside es h = tt
 few_all text all (moments.Parameter w ∷ ms) known inside es h = few_top text all known inside (moments.Parameter w) ms es (few_all text all ms) h
 few_all text all (moments.Port f ∷ ms) known inside es h = few_top text all known inside (moments.Port f) ms es (few_all text all ms) h
 few_all text all (moments.Count k u ∷ ms) known inside es h = few_top text all known inside (moments.Count k u) ms es (few_all text all ms) h
+few_all text all (moments.Room n u ∷ ms) known inside es h = few_top text all known inside (moments.Room n u) ms es (few_all text all ms) h
 few_all text all (moments.Element name u ∷ ms) known inside es h = few_top text all known inside (moments.Element name u) ms es (few_all text all ms) h
 few_all text all (moments.Join arrow from to ∷ ms) known inside es h = few_top text all known inside (moments.Join arrow from to) ms es (few_all text all ms) h
 few_all text all (moments.Enter k u place ∷ ms) known inside es h = few_top text all known inside (moments.Enter k u place) ms es (few_all text all ms) h

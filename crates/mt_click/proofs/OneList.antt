@@ -5,12 +5,11 @@ use Rattle.mt_click.specs.declared.link.Way.{Way}
 use Rattle.mt_click.specs.declared.link.Link.{Link}
 use Rattle.mt_click.specs.declared.graph.Wire.{Wire}
 use Rattle.mt_click.specs.declared.graph.Graph.{Graph}
-use Rattle.mt_click.specs.declared.fault.Fault.{Fault}
-use Rattle.mt_click.specs.Walk.{State}
+use Rattle.mt_syntax.specs.declared.fault.Fault.{Fault}
+use Rattle.mt_click.specs.Elements.{State}
 use Rattle.mt_click.specs.Links.{links_in}
-use Rattle.mt_click.specs.Elements.{built_in}
 use Rattle.mt_click.specs.Wires.{IsBefore, AreWays, AreWires, wire_of}
-use Rattle.mt_click.specs.Graphs.{IsGraph}
+use Rattle.mt_click.specs.Building.{built_in, IsWalked}
 use Rattle.mt_click.proofs.Ways.{first_in, later_in, cases_in, none_in}
 
 -- a way does not stand before itself, nor two before one another
@@ -83,7 +82,7 @@ ok_same : (s t : State) (r : Result State Fault) → r ≡ Ok s → r ≡ Ok t �
 ok_same s t r a b = let e : Ok s ≡ Ok t = sym a ∙ b in cc
 
 -- a text has one graph
-pub one_graph : (text : List ℕ) (g h : Graph) → IsGraph text g → IsGraph text h → (g.elements.items ≡ h.elements.items) × (g.wires.items ≡ h.wires.items)
+pub one_graph : (text : List ℕ) (g h : Graph) → IsWalked text g → IsWalked text h → (g.elements.items ≡ h.elements.items) × (g.wires.items ≡ h.wires.items)
 one_graph text g h a b =
     let e = ok_same a.state b.state (built_in text) a.walk b.walk in (
       a.elements ∙ ap (λ (s : State). s.elements) e ∙ sym b.elements,

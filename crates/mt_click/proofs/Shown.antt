@@ -1,18 +1,18 @@
 -- The place of a byte that no comment hides.
 use Rattle.std.proofs.Common.{◌≡◌, ℕ, zero, suc, ◌+◌, ◌-◌, ◌<◌, List, [], ◌∷◌, length, Option, Some, None, refl, arith, ap, sym, ◌∙◌}
 use Rattle.std.proofs.Common.{Result, Ok, Err, Bool, true}
-use Rattle.mt_click.specs.declared.fault.ClickWhy.TheVariants as whys
-use Rattle.mt_click.specs.declared.fault.Fault.{Fault}
-use Rattle.mt_click.specs.declared.part.Word.{Word}
-use Rattle.mt_click.specs.declared.part.Use.{Use}
-use Rattle.mt_click.specs.declared.replacing.Binding.{Binding}
-use Rattle.mt_click.specs.Comment.{hidden}
-use Rattle.mt_click.specs.Arguments.{shown}
-use Rattle.mt_click.specs.Replacing.{unknown_in}
-use Rattle.mt_click.specs.Words.{inner}
+use Rattle.mt_syntax.specs.declared.fault.ClickWhy.TheVariants as whys
+use Rattle.mt_syntax.specs.declared.fault.Fault.{Fault}
+use Rattle.mt_syntax.specs.declared.part.Word.{Word}
+use Rattle.mt_syntax.specs.declared.part.Use.{Use}
+use Rattle.mt_syntax.specs.declared.replacing.Binding.{Binding}
+use Rattle.mt_syntax.specs.Comment.{hidden}
+use Rattle.mt_syntax.specs.Arguments.{shown}
+use Rattle.mt_syntax.specs.Replacing.{unknown_in}
+use Rattle.mt_syntax.specs.Words.{inner}
 use Rattle.mt_click.specs.Moments.{wrong}
 use Rattle.mt_click.specs.Walk.{shown_place, unknown_place, known_names}
-use Rattle.mt_click.proofs.Comments.{nothings}
+use Rattle.mt_syntax.proofs.Comments.{nothings}
 
 pub hidden_place : (bs : List (Option ℕ)) (n : ℕ) → shown_place (None ∷ bs) n ≡ shown_place bs n + 1
 unfolding shown_place

@@ -1,25 +1,26 @@
 -- The walk over uses of classes, one moment or one use on.
-use Rattle.std.proofs.Common.{◌≡◌, ℕ, zero, suc, ◌+◌, ◌-◌, ◌<◌, ◌≤◌, List, [], ◌∷◌, ◌++◌, reverse, take, drop, get_or, slice_get, length, cond, nat_lt, Bool, true, false, Option, Some, None, Result, Ok, Err, refl, sym, ap, ◌∙◌, arith}
+use Rattle.std.proofs.Common.{◌≡◌, ℕ, zero, suc, ◌+◌, ◌-◌, ◌<◌, ◌≤◌, List, [], ◌∷◌, ◌++◌, reverse, take, drop, get_or, slice_get, length, cond, nat_le, nat_lt, Bool, true, false, Option, Some, None, Result, Ok, Err, refl, sym, ap, ◌∙◌, arith}
 use Rattle.std.proofs.lemmas.Bool.{eqb-true}
 use Rattle.std.proofs.lemmas.List.Concat.{flat_map-cons}
 use Rattle.std.proofs.Math.Seq.{take-length}
 use Rattle.std.specs.Fmt.{decimal}
-use Rattle.mt_click.specs.declared.fault.ReadError.{ReadError}
-use Rattle.mt_click.specs.declared.fault.ReadError.TheVariants as errors
+use Rattle.mt_syntax.specs.declared.fault.ReadError.{ReadError}
+use Rattle.mt_syntax.specs.declared.fault.ReadError.TheVariants as errors
 use Rattle.std.proofs.lemmas.Bool.Decides.{nat_tests}
 use Rattle.std.proofs.lemmas.List.{drop_more, reverse-append, reverse-reverse, map_push}
 use Rattle.std.proofs.Math.Dec.{eqb}
-use Rattle.mt_click.specs.declared.fault.Fault.{Fault}
+use Rattle.mt_syntax.specs.declared.fault.Fault.{Fault}
 use Rattle.mt_click.specs.declared.moment.Moment.{Moment}
 use Rattle.mt_click.specs.declared.moment.Moment.TheVariants as moments
 use Rattle.mt_click.specs.declared.walk.Source.{Source}
 use Rattle.mt_click.specs.declared.walk.Frame.{Frame}
 use Rattle.mt_click.specs.declared.walk.Entered.{Entered}
-use Rattle.mt_click.specs.declared.replacing.Binding.{Binding}
-use Rattle.mt_click.specs.Reading.{◌>>=◌, Fails}
-use Rattle.mt_click.specs.declared.fault.ClickWhy.TheVariants as whys
+use Rattle.mt_syntax.specs.declared.replacing.Binding.{Binding}
+use Rattle.mt_syntax.specs.Reading.{◌>>=◌, Fails}
+use Rattle.mt_syntax.specs.declared.fault.ClickWhy.TheVariants as whys
 use Rattle.mt_click.specs.Moments.{wrong}
-use Rattle.mt_click.specs.Walk.{Place, State, with_element, with_use, Moved, Walked, walk, enter, entering, moved, body_of, place_in, bound, counted, element_moved, entered, known_names, arguments_in, scope_text, top}
+use Rattle.mt_click.specs.Elements.{Place, State, with_element, with_use, arguments_in, scope_text, top}
+use Rattle.mt_click.specs.Walk.{Moved, Walked, walk, enter, entering, moved, body_of, place_in, bound, counted, roomed, element_moved, entered, known_names}
 use Rattle.mt_click.specs.Stacks.{bodies, numbers, top_bindings, top_around, place_of}
 use Rattle.mt_click.specs.Runs.{place_at, finish, run, run_all, is_done, walk_cost, enter_cost, frame_cost, cost_all, use_cost, used, Continues}
 
@@ -72,6 +73,7 @@ walk_on text all inner p (moments.Parameter w) ms es h = refl
 walk_on text all inner p (moments.Name f) ms es h = refl
 walk_on text all inner p (moments.Port f) ms es h = refl
 walk_on text all inner p (moments.Count k u) ms es h = refl
+walk_on text all inner p (moments.Room n u) ms es h = refl
 walk_on text all inner p (moments.Element name u) ms es h = refl
 walk_on text all inner p (moments.Enter k u place) ms es h = refl
 walk_on text all inner p (moments.Join arrow from to) ms es h = refl
@@ -87,6 +89,7 @@ walk_end text all inner p (moments.Parameter w ∷ ms) es h = absurd (let x : fa
 walk_end text all inner p (moments.Name f ∷ ms) es h = absurd (let x : false ≡ true = h in cc)
 walk_end text all inner p (moments.Port f ∷ ms) es h = absurd (let x : false ≡ true = h in cc)
 walk_end text all inner p (moments.Count k u ∷ ms) es h = absurd (let x : false ≡ true = h in cc)
+walk_end text all inner p (moments.Room n u ∷ ms) es h = absurd (let x : false ≡ true = h in cc)
 walk_end text all inner p (moments.Element name u ∷ ms) es h = absurd (let x : false ≡ true = h in cc)
 walk_end text all inner p (moments.Enter k u place ∷ ms) es h = absurd (let x : false ≡ true = h in cc)
 walk_end text all inner p (moments.Join arrow from to ∷ ms) es h = absurd (let x : false ≡ true = h in cc)
@@ -215,19 +218,25 @@ element_none : (b : Bool) (f : Fault) (a : Result Bool Fault) (xs ys : State) (e
 element_none true f a xs ys e h = kept a xs ys None e h
 element_none false f a xs ys e h = absurd (let q : false ≡ true = ap is_fine h in cc)
 
+room_none : (b : Bool) (xs ys : State) (f : Fault) (e : Option Entered) → cond b (let r : Result Moved Fault = Ok (xs, None) in r) (Err f) ≡ Ok (ys, e) → e ≡ None
+room_none true xs ys f e h = sym (ap use_of h)
+room_none false xs ys f e h = absurd (let q : false ≡ true = ap is_fine h in cc)
+
 -- what walking the use that a moment makes costs
 abbrev moment_cost : Source → ℕ → Moment → ℕ
 moment_cost s known (moments.Enter k u place) = enter_cost (bodies s) known k
 moment_cost s known _ = 0
 
 use_cost_of : (s : Source) (known : ℕ) (p : Place) (m : Moment) (es ys : State) (e : Option Entered) → moved s.text.now (bodies s) p es m ≡ Ok (ys, e) → use_cost s known e ≡ moment_cost s known m
-unfolding moved element_moved entered
+unfolding moved roomed element_moved entered
 use_cost_of s known p moments.Class es ys e h = ap (use_cost s known) (sym (ap use_of h))
 use_cost_of s known p (moments.Parameter w) es ys e h = ap (use_cost s known) (sym (ap use_of h))
 use_cost_of s known p moments.Close es ys e h = ap (use_cost s known) (sym (ap use_of h))
 use_cost_of s known p (moments.Name f) es ys e h = ap (use_cost s known) (sym (ap use_of h))
 use_cost_of s known p (moments.Port f) es ys e h = absurd (let q : false ≡ true = ap is_fine h in cc)
 use_cost_of s known p (moments.Count k u) es ys e h = ap (use_cost s known) (kept (counted s.text.now (bodies s) p.bindings k u) es ys None e h)
+use_cost_of s known p (moments.Room n u) es ys e h =
+    ap (use_cost s known) (room_none (nat_le (length es.elements + n) 512) es ys (wrong whys.TooManyElements u.class.from) e h)
 use_cost_of s known p (moments.Element name u) es ys e h =
     ap (use_cost s known) (element_none (nat_lt (length es.elements) 512) (wrong whys.TooManyElements u.class.from) (known_names s.text.now p.bindings u) (with_element s.text.now p es name u) ys e h)
 use_cost_of s known p (moments.Enter k u place) es ys e h =
@@ -244,6 +253,7 @@ cost_on s known (moments.Parameter w) ms h = omega arith
 cost_on s known (moments.Name f) ms h = omega arith
 cost_on s known (moments.Port f) ms h = omega arith
 cost_on s known (moments.Count k u) ms h = omega arith
+cost_on s known (moments.Room n u) ms h = omega arith
 cost_on s known (moments.Element name u) ms h = omega arith
 cost_on s known (moments.Join arrow from to) ms h = omega arith
 
@@ -257,6 +267,7 @@ cost_some inner (moments.Parameter w ∷ ms) = omega arith
 cost_some inner (moments.Name f ∷ ms) = omega arith
 cost_some inner (moments.Port f ∷ ms) = omega arith
 cost_some inner (moments.Count k u ∷ ms) = omega arith
+cost_some inner (moments.Room n u ∷ ms) = omega arith
 cost_some inner (moments.Element name u ∷ ms) = omega arith
 cost_some inner (moments.Join arrow from to ∷ ms) = omega arith
 
@@ -292,6 +303,7 @@ bound_none text (moments.Class ∷ ms) [] h = refl
 bound_none text (moments.Name f ∷ ms) [] h = refl
 bound_none text (moments.Port f ∷ ms) [] h = refl
 bound_none text (moments.Count k u ∷ ms) [] h = refl
+bound_none text (moments.Room n u ∷ ms) [] h = refl
 bound_none text (moments.Element name u ∷ ms) [] h = refl
 bound_none text (moments.Enter k u place ∷ ms) [] h = refl
 bound_none text (moments.Join arrow from to ∷ ms) [] h = refl

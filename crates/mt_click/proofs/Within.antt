@@ -16,10 +16,10 @@ use Rattle.mt_click.specs.declared.graph.Wire.{Wire}
 use Rattle.mt_click.specs.declared.graph.Graph.{Graph}
 use Rattle.mt_click.specs.Links.{is_made, thing_from, thing_at, left_at, reached_at, source_of, target_of, linking, link_of, links_from, links_in}
 use Rattle.mt_click.specs.Wires.{Leads, stays, follows, IsWay, wire_of}
-use Rattle.mt_click.specs.Graphs.{IsGraph, AreWithin}
+use Rattle.mt_click.specs.Sound.{AreWithin}
 use Rattle.mt_click.proofs.Ways.{first_in, later_in, cases_in, none_in}
 use Rattle.mt_click.proofs.Most.{IsThere, few, few_found}
-use Rattle.mt_click.specs.Elements.{built_in}
+use Rattle.mt_click.specs.Building.{built_in, IsWalked}
 
 abbrev pub MayBeThere : ℕ → Option Thing → Type 0
 MayBeThere count None = Unit {0}
@@ -104,7 +104,7 @@ mapped f (x ∷ xs) y c = elim (cases_in (f x) (map f xs) y c) [
 ]
 
 -- the wires of a graph
-pub within : (text : List ℕ) (g : Graph) → IsGraph text g → AreWithin (length g.elements.items) g.wires.items
+pub within : (text : List ℕ) (g : Graph) → IsWalked text g → AreWithin (length g.elements.items) g.wires.items
 within text g i w c =
     let s = i.state in
     let sound = few_found s (built_in text) i.walk (few text) in
@@ -114,7 +114,7 @@ within text g i w c =
     let q : length s.elements ≡ length g.elements.items = ap length (sym i.elements) in
     subst (λ (x : Wire). (x.from < length g.elements.items) × (x.to < length g.elements.items)) m.2 (subst (λ n. (m.0.from < n) × (m.0.to < n)) q there)
 
-pub at_most : (text : List ℕ) (g : Graph) → IsGraph text g → length g.elements.items ≤ 512
+pub at_most : (text : List ℕ) (g : Graph) → IsWalked text g → length g.elements.items ≤ 512
 at_most text g i =
     let sound = few_found i.state (built_in text) i.walk (few text) in
     let q : length g.elements.items ≡ length i.state.elements = ap length i.elements in

@@ -1,5 +1,6 @@
 -- Connections as links between ports of elements and of uses of classes.
-use Rattle.std.specs.Prelude.{ℕ, List, [], ◌∷◌, ◌++◌, Option, Some, None, Bool, ◌&&◌, nat_eq, if◌then◌else◌}
+use Rattle.std.specs.Prelude.{◌≡◌, ℕ, List, [], ◌∷◌, ◌++◌, Option, Some, None, Bool, ◌&&◌, nat_eq, Contains, if◌then◌else◌}
+use Rattle.std.specs.List.{AllPairs}
 use Rattle.mt_click.specs.declared.moment.Side.{Side}
 use Rattle.mt_click.specs.declared.moment.Side.TheVariants as sides
 use Rattle.mt_click.specs.declared.built.Thing.{Thing}
@@ -9,7 +10,7 @@ use Rattle.mt_click.specs.declared.built.Joined.{Joined}
 use Rattle.mt_click.specs.declared.link.Node.{Node}
 use Rattle.mt_click.specs.declared.link.Node.TheVariants as nodes
 use Rattle.mt_click.specs.declared.link.Link.{Link}
-use Rattle.mt_click.specs.Walk.{State}
+use Rattle.mt_click.specs.Elements.{State}
 
 -- What is made in the use of a number at a place of the text. Nothing in a use makes two things at one
 -- place; the last one would count.
@@ -59,3 +60,22 @@ links_from made (j ∷ js) = link_of made j ++ links_from made js
 -- the links of a configuration, in the order of the walk
 abbrev pub links_in : State → List Link
 links_in s = links_from s.made s.joins
+
+-- no two things are made in one use at one place
+abbrev pub IsElsewhere : Made → Made → Type 0
+IsElsewhere a b = a.around ≡ b.around → a.place ≡ b.place → ⊥
+
+abbrev pub AreMadeOnce : List Made → Type 0
+AreMadeOnce made = AllPairs IsElsewhere made
+
+-- A connection has both its ends: what it leaves and what it comes to are among what is made.
+pub record HasEnds (made : List Made) (j : Joined) : Type 0 where
+  pub source : Node
+  pub leaves : source_of made j.around j.from ≡ Some source
+  pub target : Node
+  pub comes : target_of made j.around j.to ≡ Some target
+
+-- No place of a use has two things, and each connection is a link: none is lost.
+pub record IsJoined (s : State) : Type 0 where
+  pub once : AreMadeOnce s.made
+  pub ends : (j : Joined) → Contains s.joins j → HasEnds s.made j

@@ -1,18 +1,18 @@
 -- The moments of the walk over a configuration, in its order: what each part does or has at fault, each
 -- name told as what it stands for.
-use Rattle.std.specs.Prelude.{ℕ, List, [], ◌∷◌, ◌++◌, slice_get, codes, Option, Some, None, is_some, option_and_then, Bool, true, false, ◌&&◌, ◌||◌, not, nat_lt, if◌then◌else◌}
+use Rattle.std.specs.Prelude.{ℕ, List, [], ◌∷◌, ◌++◌, length, slice_get, codes, Option, Some, None, is_some, option_and_then, Bool, true, false, ◌&&◌, ◌||◌, not, nat_lt, if◌then◌else◌}
 use Rattle.std.specs.Str.{bytes_eq}
-use Rattle.mt_click.specs.declared.fault.ClickWhy.TheVariants as whys
-use Rattle.mt_click.specs.declared.fault.ClickWhy.{ClickWhy}
-use Rattle.mt_click.specs.declared.fault.Fault.{Fault}
-use Rattle.mt_click.specs.declared.part.Word.{Word}
-use Rattle.mt_click.specs.declared.part.Use.{Use}
-use Rattle.mt_click.specs.declared.part.Port.{Port}
-use Rattle.mt_click.specs.declared.part.End.{End}
-use Rattle.mt_click.specs.declared.part.Item.{Item}
-use Rattle.mt_click.specs.declared.part.Item.TheVariants as items
-use Rattle.mt_click.specs.declared.part.Part.{Part}
-use Rattle.mt_click.specs.declared.part.Part.TheVariants as parts
+use Rattle.mt_syntax.specs.declared.fault.ClickWhy.TheVariants as whys
+use Rattle.mt_syntax.specs.declared.fault.ClickWhy.{ClickWhy}
+use Rattle.mt_syntax.specs.declared.fault.Fault.{Fault}
+use Rattle.mt_syntax.specs.declared.part.Word.{Word}
+use Rattle.mt_syntax.specs.declared.part.Use.{Use}
+use Rattle.mt_syntax.specs.declared.part.Port.{Port}
+use Rattle.mt_syntax.specs.declared.part.End.{End}
+use Rattle.mt_syntax.specs.declared.part.Item.{Item}
+use Rattle.mt_syntax.specs.declared.part.Item.TheVariants as items
+use Rattle.mt_syntax.specs.declared.part.Part.{Part}
+use Rattle.mt_syntax.specs.declared.part.Part.TheVariants as parts
 use Rattle.mt_click.specs.declared.scope.Scope.{Scope}
 use Rattle.mt_click.specs.declared.table.Entry.{Entry}
 use Rattle.mt_click.specs.declared.moment.Moment.{Moment}
@@ -20,7 +20,8 @@ use Rattle.mt_click.specs.declared.moment.Side.{Side}
 use Rattle.mt_click.specs.declared.moment.Side.TheVariants as sides
 use Rattle.mt_click.specs.declared.moment.Moment.TheVariants as moments
 use Rattle.mt_click.specs.Scopes.{behind, scope_number, outside}
-use Rattle.mt_click.specs.Words.{bytes_of}
+use Rattle.mt_syntax.specs.Words.{bytes_of}
+use Rattle.mt_click.specs.Elements.{own_place}
 use Rattle.mt_click.specs.Names.{Names, names_in, first_entry, class_of, waiting_behind, number_of, is_joined}
 
 abbrev pub wrong : ClickWhy → ℕ → Fault
@@ -88,11 +89,6 @@ counting_of u (Some k) = moments.Count k u ∷ []
 
 unfoldable pub counting : Names → Scope → Use → List Moment
 counting names s u = counting_of u (class_named names s u.class)
-
--- where what a use makes is declared: at its name, or else at its class
-abbrev pub own_place : Option Word → Use → ℕ
-own_place None u = u.class.from
-own_place (Some w) u = w.from
 
 -- an element or a use of a class comes
 abbrev pub making_of : Option Word → Use → Option ℕ → Moment
@@ -182,6 +178,10 @@ abbrev pub joining : ℕ → Option Side → Option Side → List Moment
 joining arrow (Some a) (Some b) = moments.Join arrow a b ∷ []
 joining arrow _ _ = []
 
+-- The names before one `::`: the elements of all of them have room, where they are elements.
+unfoldable pub rooming : Names → Scope → Use → List Word → List Moment
+rooming names s u ws = if is_some (class_named names s u.class) then [] else moments.Room (length ws) u ∷ []
+
 -- the elements before one `::`, in their order
 unfoldable pub group_moments : Names → Scope → Use → List Word → List Moment
 group_moments names s u [] = []
@@ -196,7 +196,7 @@ part_moments names s ws before joined (parts.Class w) = class_moments names s w
 part_moments names s ws before joined (parts.Parameter w) = moments.Parameter w ∷ []
 part_moments names s ws before joined parts.Close = moments.Close ∷ []
 part_moments names s ws before joined (parts.Declared w) = naming names s w
-part_moments names s ws before joined (parts.Made u) = using names s u.class ++ group_moments names s u ws
+part_moments names s ws before joined (parts.Made u) = using names s u.class ++ (rooming names s u ws ++ group_moments names s u ws)
 part_moments names s ws before joined (parts.First e) = end_moments names s false joined e
 part_moments names s ws before joined (parts.Next arrow e) = end_moments names s true joined e ++ joining arrow before (sink names s e)
 

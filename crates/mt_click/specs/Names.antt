@@ -1,17 +1,17 @@
 -- What is declared in each scope: classes, names of elements, and the ports that bodies name.
 use Rattle.std.specs.Prelude.{ℕ, ◌+◌, List, [], ◌∷◌, ◌++◌, map, codes, Option, Some, None, Bool, true, false, ◌&&◌, nat_eq, nat_lt, if◌then◌else◌}
 use Rattle.std.specs.Str.{bytes_eq}
-use Rattle.mt_click.specs.declared.part.Word.{Word}
-use Rattle.mt_click.specs.declared.part.Port.{Port}
-use Rattle.mt_click.specs.declared.part.End.{End}
-use Rattle.mt_click.specs.declared.part.Item.{Item}
-use Rattle.mt_click.specs.declared.part.Item.TheVariants as items
-use Rattle.mt_click.specs.declared.part.Part.{Part}
-use Rattle.mt_click.specs.declared.part.Part.TheVariants as parts
+use Rattle.mt_syntax.specs.declared.part.Word.{Word}
+use Rattle.mt_syntax.specs.declared.part.Port.{Port}
+use Rattle.mt_syntax.specs.declared.part.End.{End}
+use Rattle.mt_syntax.specs.declared.part.Item.{Item}
+use Rattle.mt_syntax.specs.declared.part.Item.TheVariants as items
+use Rattle.mt_syntax.specs.declared.part.Part.{Part}
+use Rattle.mt_syntax.specs.declared.part.Part.TheVariants as parts
 use Rattle.mt_click.specs.declared.scope.Scope.{Scope}
 use Rattle.mt_click.specs.declared.table.Entry.{Entry}
 use Rattle.mt_click.specs.Scopes.{behind, scope_number, outside}
-use Rattle.mt_click.specs.Words.{bytes_of}
+use Rattle.mt_syntax.specs.Words.{bytes_of}
 
 -- an entry under a name, in a scope, and with the number of a port
 abbrev pub entry : ℕ → ℕ → Word → Option ℕ → Entry

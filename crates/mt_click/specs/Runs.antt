@@ -1,14 +1,15 @@
 -- What is left of the walk while uses of classes are being walked, the innermost of which is the last.
 use Rattle.std.specs.Prelude.{◌≡◌, ℕ, zero, suc, ◌+◌, List, [], ◌∷◌, ◌++◌, reverse, drop, Option, Some, None, Result, Ok, Err, Bool, true, false, ◌==◌, if◌then◌else◌}
-use Rattle.mt_click.specs.declared.fault.ReadError.{ReadError}
-use Rattle.mt_click.specs.declared.fault.ReadError.TheVariants as errors
+use Rattle.mt_syntax.specs.declared.fault.ReadError.{ReadError}
+use Rattle.mt_syntax.specs.declared.fault.ReadError.TheVariants as errors
 use Rattle.mt_click.specs.declared.moment.Moment.{Moment}
 use Rattle.mt_click.specs.declared.moment.Moment.TheVariants as moments
 use Rattle.mt_click.specs.declared.walk.Source.{Source}
 use Rattle.mt_click.specs.declared.walk.Frame.{Frame}
 use Rattle.mt_click.specs.declared.walk.Entered.{Entered}
-use Rattle.mt_click.specs.Reading.{◌>>=◌}
-use Rattle.mt_click.specs.Walk.{Place, State, Walked, walk, enter, entering, moved, body_of, top}
+use Rattle.mt_syntax.specs.Reading.{◌>>=◌}
+use Rattle.mt_click.specs.Elements.{Place, State, top}
+use Rattle.mt_click.specs.Walk.{Walked, walk, enter, entering, moved, body_of}
 use Rattle.mt_click.specs.Stacks.{bodies, numbers, place_of}
 
 -- where the walk is in a use, with the uses around it from the inside out

@@ -1,7 +1,7 @@
 -- Scopes: the body of each class, and all that is outside classes.
 use Rattle.std.specs.Prelude.{ℕ, ◌+◌, true, false, if◌then◌else◌}
-use Rattle.mt_click.specs.declared.part.Part.{Part}
-use Rattle.mt_click.specs.declared.part.Part.TheVariants as parts
+use Rattle.mt_syntax.specs.declared.part.Part.{Part}
+use Rattle.mt_syntax.specs.declared.part.Part.TheVariants as parts
 use Rattle.mt_click.specs.declared.scope.Scope.{Scope}
 
 -- the scope behind a part

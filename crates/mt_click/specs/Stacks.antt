@@ -2,10 +2,10 @@
 use Rattle.std.specs.Prelude.{ℕ, List, [], ◌∷◌, drop, map}
 use Rattle.mt_click.specs.declared.walk.Source.{Source}
 use Rattle.mt_click.specs.declared.walk.Frame.{Frame}
-use Rattle.mt_click.specs.declared.replacing.Binding.{Binding}
+use Rattle.mt_syntax.specs.declared.replacing.Binding.{Binding}
 use Rattle.mt_click.specs.declared.moment.Moment.{Moment}
 use Rattle.mt_click.specs.declared.built.Built.{Built}
-use Rattle.mt_click.specs.Walk.{Place, State}
+use Rattle.mt_click.specs.Elements.{Place, State}
 
 -- the body of each class
 abbrev pub bodies : Source → List (List Moment)

@@ -1,32 +1,21 @@
 -- The walk over the moments of a configuration: its elements, or the first fault that the walk meets.
-use Rattle.std.specs.Prelude.{ℕ, zero, suc, ◌+◌, List, [], ◌∷◌, ◌++◌, length, drop, get_or, Option, Some, None, Result, Ok, Err, Bool, true, false, ◌==◌, nat_lt, if◌then◌else◌}
-use Rattle.std.specs.List.{flat_map, prefix_len}
-use Rattle.std.specs.Fmt.{decimal}
-use Rattle.mt_click.specs.declared.fault.ClickWhy.TheVariants as whys
-use Rattle.mt_click.specs.declared.fault.Fault.{Fault}
-use Rattle.mt_click.specs.declared.part.Word.{Word}
-use Rattle.mt_click.specs.declared.part.Use.{Use}
-use Rattle.mt_click.specs.declared.replacing.Binding.{Binding}
-use Rattle.mt_click.specs.declared.element.Element.{Element}
-use Rattle.mt_click.specs.declared.built.Made.{Made}
-use Rattle.mt_click.specs.declared.built.Joined.{Joined}
-use Rattle.mt_click.specs.declared.built.Thing.TheVariants as things
-use Rattle.mt_click.specs.declared.moment.Side.{Side}
+use Rattle.std.specs.Prelude.{ℕ, zero, suc, ◌+◌, List, [], ◌∷◌, ◌++◌, length, drop, get_or, Option, Some, None, Result, Ok, Err, Bool, true, false, ◌==◌, nat_le, nat_lt, if◌then◌else◌}
+use Rattle.std.specs.List.{prefix_len}
+use Rattle.mt_syntax.specs.declared.fault.ClickWhy.TheVariants as whys
+use Rattle.mt_syntax.specs.declared.fault.Fault.{Fault}
+use Rattle.mt_syntax.specs.declared.part.Word.{Word}
+use Rattle.mt_syntax.specs.declared.part.Use.{Use}
+use Rattle.mt_syntax.specs.declared.replacing.Binding.{Binding}
 use Rattle.mt_click.specs.declared.moment.Moment.{Moment}
 use Rattle.mt_click.specs.declared.walk.Entered.{Entered}
 use Rattle.mt_click.specs.declared.moment.Moment.TheVariants as moments
-use Rattle.mt_click.specs.Comment.{bare}
-use Rattle.mt_click.specs.Arguments.{shown, separated}
-use Rattle.mt_click.specs.Replacing.{replaced_in, unknown_in}
-use Rattle.mt_click.specs.Reading.{◌>>=◌}
-use Rattle.mt_click.specs.Place.{line_of}
-use Rattle.mt_click.specs.Words.{bytes_of, inner}
-use Rattle.mt_click.specs.Moments.{wrong, own_place}
-
--- The arguments of a use in a body: each parameter is replaced by its argument, and what comes of it is
--- separated.
-unfoldable pub arguments_in : List ℕ → List Binding → Use → List (List ℕ)
-arguments_in text bindings u = separated (replaced_in bindings (shown (inner text u.arguments)))
+use Rattle.mt_syntax.specs.Comment.{bare}
+use Rattle.mt_syntax.specs.Arguments.{shown}
+use Rattle.mt_syntax.specs.Replacing.{unknown_in}
+use Rattle.mt_syntax.specs.Reading.{◌>>=◌}
+use Rattle.mt_syntax.specs.Words.{bytes_of, inner}
+use Rattle.mt_click.specs.Elements.{arguments_in, Place, State, empty, top, with_element, with_use, with_join}
+use Rattle.mt_click.specs.Moments.{wrong}
 
 -- where the byte of a number stands that no comment hides
 unfoldable pub shown_place : List (Option ℕ) → ℕ → ℕ
@@ -46,53 +35,6 @@ known_names text bindings u =
       | None ↦ Ok true
       | Some n ↦ Err (wrong whys.UnknownName (unknown_place u.arguments (inner text u.arguments) n))
     ]
-
--- The name of an element: for each use around it the number of that use's first element and `/`, then
--- its own.
-abbrev pub scope_text : List ℕ → List ℕ
-scope_text numbers = flat_map (λ n. decimal n ++ 47 ∷ []) numbers
-
-abbrev pub own_name : List ℕ → Option Word → List ℕ
-own_name text None = []
-own_name text (Some w) = bytes_of text w
-
-unfoldable pub element_of : List ℕ → List ℕ → List Binding → Option Word → Use → Element
-element_of text numbers bindings name u = record {
-  class = bytes_of text u.class;
-  args = arguments_in text bindings u;
-  name = scope_text numbers ++ own_name text name;
-  line = line_of text (own_place name u);
-}
-
--- Where a walk is: the uses around it, each as the number of its first element, what the parameters
--- of the class stand for, and the number of the innermost use, which is 0 outside classes.
-pub record Place : Type 0 where
-  pub numbers : List ℕ
-  pub bindings : List Binding
-  pub around : ℕ
-
--- What is there: the elements, what is made in each use and where, and the connections of each use.
-pub record State : Type 0 where
-  pub elements : List Element
-  pub made : List Made
-  pub joins : List Joined
-
-abbrev pub empty : State
-empty = record { elements = []; made = []; joins = [] }
-
-abbrev pub with_element : List ℕ → Place → State → Option Word → Use → State
-with_element text p s name u = record {
-  elements = s.elements ++ element_of text p.numbers p.bindings name u ∷ [];
-  made = s.made ++ record { around = p.around; place = own_place name u; thing = things.Element (length s.elements) } ∷ [];
-  joins = s.joins;
-}
-
--- a use of a class has the number of what was made before it, from 1 on
-abbrev pub with_use : Place → State → ℕ → State
-with_use p s place = record { elements = s.elements; made = s.made ++ record { around = p.around; place = place; thing = things.Use (length s.made + 1) } ∷ []; joins = s.joins }
-
-abbrev pub with_join : Place → State → ℕ → Side → Side → State
-with_join p s arrow from to = record { elements = s.elements; made = s.made; joins = s.joins ++ record { around = p.around; arrow = arrow; from = from; to = to } ∷ [] }
 
 -- what is there behind a moment, and the use that is walked there
 abbrev pub Moved : Type 0
@@ -117,6 +59,10 @@ unfoldable pub element_moved : List ℕ → Place → State → Option Word → 
 element_moved text p es name u = if nat_lt (length es.elements) 512 then (known_names text p.bindings u >>= λ _. Ok (with_element text p es name u, None))
     else Err (wrong whys.TooManyElements u.class.from)
 
+-- so many more
+unfoldable pub roomed : State → ℕ → Use → Result Moved Fault
+roomed es n u = if nat_le (length es.elements + n) 512 then Ok (es, None) else Err (wrong whys.TooManyElements u.class.from)
+
 unfoldable pub entered : List ℕ → Place → State → ℕ → Use → ℕ → Result Moved Fault
 entered text p es k u place = known_names text p.bindings u >>= λ _. Ok (with_use p es place, Some (record { class = k; number = length es.elements; around = length es.made + 1; arguments = arguments_in text p.bindings u }))
 
@@ -124,6 +70,7 @@ entered text p es k u place = known_names text p.bindings u >>= λ _. Ok (with_u
 unfoldable pub moved : List ℕ → List (List Moment) → Place → State → Moment → Result Moved Fault
 moved text bodies p es (moments.Port f) = Err f
 moved text bodies p es (moments.Count k u) = counted text bodies p.bindings k u >>= λ _. Ok (es, None)
+moved text bodies p es (moments.Room n u) = roomed es n u
 moved text bodies p es (moments.Element name u) = element_moved text p es name u
 moved text bodies p es (moments.Enter k u place) = entered text p es k u place
 moved text bodies p es (moments.Join arrow from to) = Ok (with_join p es arrow from to, None)
@@ -165,9 +112,6 @@ abbrev pub bodies_in : List Moment → List (List Moment)
 bodies_in [] = []
 bodies_in (moments.Class ∷ ms) = ms ∷ bodies_in ms
 bodies_in (_ ∷ ms) = bodies_in ms
-
-abbrev pub top : Place
-top = record { numbers = []; bindings = []; around = 0 }
 
 -- The walk over the whole: at the declaration of a class only names at fault are met in its body.
 -- `known` classes begin before.

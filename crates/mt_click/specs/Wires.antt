@@ -6,7 +6,7 @@ use Rattle.mt_click.specs.declared.link.Node.{Node}
 use Rattle.mt_click.specs.declared.link.Node.TheVariants as nodes
 use Rattle.mt_click.specs.declared.link.Link.{Link}
 use Rattle.mt_click.specs.declared.link.Way.{Way}
-use Rattle.mt_click.specs.Place.{line_of}
+use Rattle.mt_syntax.specs.Place.{line_of}
 
 -- A port, what links that leave it come to, and so on. No link leaves an input of an element, so only
 -- ports of uses are passed through.

@@ -1,5 +1,5 @@
 //! The elements of a configuration.
-use crate::text::{Text, Texts};
+use mt_syntax::{Text, Texts};
 
 /// An element: its class, its arguments, its name and the line, from 1, on which it is declared. The
 /// name is the scope and the declared name, or the scope alone where it has none. The scope has, for

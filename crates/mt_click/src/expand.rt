@@ -1,17 +1,15 @@
 //! The walk over a whole configuration.
 ghost use Rattle.std.specs.Prelude.{◌≡◌, ◌+◌, ◌++◌, ◌≤◌, ◌<◌, List, [], false, length, drop, map, IfOk, OnOk};
-ghost use Rattle.mt_click.specs.Reading.{Gives};
-ghost use Rattle.mt_click.specs.Walk.{bound, body_of, bodies_in, enter, entering, walk_all, walked, top, empty, State};
+ghost use Rattle.mt_syntax.specs.Reading.{Gives};
+ghost use Rattle.mt_click.specs.Elements.{top, empty, State};
+ghost use Rattle.mt_click.specs.Walk.{bound, body_of, bodies_in, enter, entering, walk_all, walked};
 ghost use Rattle.mt_click.specs.Stacks.{bodies, state};
 ghost use Rattle.mt_click.specs.Runs.{is_done, run_all, cost_all, use_cost, used, moved_on, Continues};
 
 use crate::built::Built;
-use crate::fault::ReadError;
 use crate::moment::Moment;
-use crate::replacing::Binding;
-use crate::text::Text;
 use crate::walk::{Entered, Frame, Source, body_from, body_place, move_on, text_of};
-use crate::words::word_bytes;
+use mt_syntax::{Binding, ReadError, Text, word_bytes};
 use std::alloc::{AllocError, Global};
 
 // Where the body of each class begins in the moments.

@@ -5,10 +5,9 @@ ghost use Rattle.mt_click.specs.Tables.{AreTables, names};
 ghost use Rattle.mt_click.specs.Moments.{is_pseudo, declared_place, class_at, class_named, is_new, class_of_name, class_of_item, is_before, is_redeclared, is_word, is_own};
 
 use crate::names::{class_in, classes_of, names_of, ports_of};
-use crate::part::{Item, Part, Word};
 use crate::scope::{Scope, number_of};
 use crate::table::{Table, table_of};
-use crate::words::word_bytes;
+use mt_syntax::{Item, Part, Word, word_bytes};
 use std::alloc::{AllocError, Global};
 
 /// The classes, the names of elements, and the ports that bodies name.

@@ -1,11 +1,11 @@
 //! The lines of wires.
 ghost use Rattle.std.specs.Prelude.{◌≡◌, ◌≤◌, ◌==◌, length, map, count_by, IfOk};
-ghost use Rattle.mt_click.specs.Place.{line_of};
+ghost use Rattle.mt_syntax.specs.Place.{line_of};
 ghost use Rattle.mt_click.specs.Wires.{wire_of};
 
 use crate::graph::Wire;
 use crate::link::Way;
-use crate::place::place_of;
+use mt_syntax::place_of;
 use std::alloc::{AllocError, Global};
 
 fn line_feeds(bytes: &[u8]) -> usize

@@ -1,6 +1,5 @@
 //! The moments of the walk over a configuration.
-use crate::fault::Fault;
-use crate::part::{Use, Word};
+use mt_syntax::{Fault, Use, Word};
 
 /// An end of a connection, with its port.
 #[derive(Clone, Copy, Debug, PartialEq, Eq)]
@@ -27,6 +26,8 @@ pub enum Moment {
     Port(Fault),
     /// The arguments of a use of the class of that number are counted.
     Count(usize, Use),
+    /// So many elements of a use come, which all have room or none.
+    Room(usize, Use),
     /// An element comes, with the name under which it is declared.
     Element(Option<Word>, Use),
     /// The body of the class of that number is walked, for a use that is made at a place of the text.

@@ -4,10 +4,9 @@ ghost use Rattle.mt_click.specs.Scopes.{scope_number, outside};
 ghost use Rattle.mt_click.specs.Names.{entry, class_at, classes_in, class_of, waiting_behind, declared_in, declared_at, names_from, number_of, is_joined, port_at, input_at, output_at, ports_at, ports_from};
 ghost use Rattle.mt_click.specs.Tables.{IsTable};
 
-use crate::part::{End, Item, Part, Port, Word};
 use crate::scope::{Scope, number_of, scope_behind};
 use crate::table::{Entry, Table};
-use crate::words::word_bytes;
+use mt_syntax::{End, Item, Part, Port, Word, word_bytes};
 use std::alloc::{AllocError, Global};
 
 fn push_class(entries: &mut Vec<Entry>, part: Part) -> Result<(), AllocError>

@@ -2,18 +2,28 @@
 ghost use Rattle.std.specs.Prelude.{◌≡◌, ◌+◌, ◌++◌, ◌^◌, ◌<◌, IfOk, OnOk, None, []};
 ghost use Rattle.mt_click.specs.Scopes.{outside};
 ghost use Rattle.mt_click.specs.Tables.{AreTables, names};
-ghost use Rattle.mt_click.specs.Moments.{naming, using, counting_of, counting, own_place, making_of, making, joining, reaching, written, first_place, left_out, leaving_out, unnamed, named, item_moments, whole_end, end_moments, group_moments, class_moments, part_moments, moments_from, moments_in};
+ghost use Rattle.mt_click.specs.Elements.{own_place};
+ghost use Rattle.mt_click.specs.Moments.{naming, using, counting_of, counting, making_of, making, joining, reaching, written, first_place, left_out, leaving_out, unnamed, named, item_moments, whole_end, end_moments, rooming, group_moments, class_moments, part_moments, moments_from, moments_in};
 
-use crate::fault::{ClickWhy, Fault};
 use crate::known::{
     Known, class_of_word, has_port, item_class, known_in, makes_new, redeclares, uses_itself,
 };
 use crate::moment::{Moment, Side};
 use crate::names::{joins, wait};
-use crate::part::{End, Item, Part, Port, Use, Word};
 use crate::scope::{Scope, scope_behind};
 use crate::sides::{side_of_part, sink_of};
+use mt_syntax::{ClickWhy, End, Fault, Item, Part, Port, Use, Word};
 use std::alloc::{AllocError, Global};
+
+/// An end of a connection, the class of what it stands for, where that is a use of one, and whether a
+/// `->` stands before the end and behind it.
+#[derive(Clone, Copy)]
+struct Met {
+    end: End,
+    class: Option<usize>,
+    next: bool,
+    joined: bool,
+}
 
 #[tactic(auto, unfolding(crate::specs::Moments::naming))]
 fn push_naming(
@@ -180,20 +190,21 @@ fn push_left_out(
 }
 
 #[tactic(auto, unfolding(crate::specs::Moments::leaving_out))]
-fn push_leaving_out(
-    out: &mut Vec<Moment>,
-    known: &Known<'_>,
-    class: Option<usize>,
-    next: bool,
-    joined: bool,
-    end: End,
-) -> Result<(), AllocError>
+fn push_leaving_out(out: &mut Vec<Moment>, known: &Known<'_>, met: Met) -> Result<(), AllocError>
     requires { AreTables known.now }
-    ensures { OnOk result (out.new.items ≡ out.old.items ++ leaving_out (names known.now) class next joined end) }
+    ensures { OnOk result (out.new.items ≡ out.old.items ++ leaving_out (names known.now) met.class met.next met.joined met.end) }
 {
-    let at = place_of_item(end.item);
-    push_left_out(out, known, class, b"input", next, end.input, at)?;
-    push_left_out(out, known, class, b"output", joined, end.output, at)
+    let at = place_of_item(met.end.item);
+    push_left_out(out, known, met.class, b"input", met.next, met.end.input, at)?;
+    push_left_out(
+        out,
+        known,
+        met.class,
+        b"output",
+        met.joined,
+        met.end.output,
+        at,
+    )
 }
 
 #[tactic(auto, unfolding(crate::specs::Moments::unnamed))]
@@ -201,18 +212,15 @@ fn push_unnamed(
     out: &mut Vec<Moment>,
     known: &Known<'_>,
     scope: Scope,
-    class: Option<usize>,
-    next: bool,
-    joined: bool,
-    end: End,
+    met: Met,
     made: Use,
 ) -> Result<(), AllocError>
     requires { AreTables known.now }
-    ensures { OnOk result (out.new.items ≡ out.old.items ++ unnamed (names known.now) scope class next joined end made) }
+    ensures { OnOk result (out.new.items ≡ out.old.items ++ unnamed (names known.now) scope met.class met.next met.joined met.end made) }
 {
     push_using(out, known, scope, made.class)?;
     push_counting(out, known, scope, made)?;
-    push_leaving_out(out, known, class, next, joined, end)?;
+    push_leaving_out(out, known, met)?;
     push_making(out, known, scope, None, made)
 }
 
@@ -221,19 +229,16 @@ fn push_named(
     out: &mut Vec<Moment>,
     known: &Known<'_>,
     scope: Scope,
-    class: Option<usize>,
-    next: bool,
-    joined: bool,
-    end: End,
+    met: Met,
     name: Word,
     made: Use,
 ) -> Result<(), AllocError>
     requires tables { AreTables known.now }
     requires bound { scope.known < 2 ^ 63 }
-    ensures { OnOk result (out.new.items ≡ out.old.items ++ named (names known.now) scope class next joined end name made) }
+    ensures { OnOk result (out.new.items ≡ out.old.items ++ named (names known.now) scope met.class met.next met.joined met.end name made) }
 {
     push_naming(out, known, scope, name)?;
-    push_leaving_out(out, known, class, next, joined, end)?;
+    push_leaving_out(out, known, met)?;
     push_using(out, known, scope, made.class)?;
     push_counting(out, known, scope, made)?;
     push_making(out, known, scope, Some(name), made)
@@ -244,29 +249,24 @@ fn push_item(
     out: &mut Vec<Moment>,
     known: &Known<'_>,
     scope: Scope,
-    class: Option<usize>,
-    next: bool,
-    joined: bool,
-    end: End,
+    met: Met,
 ) -> Result<(), AllocError>
     requires tables { AreTables known.now }
     requires bound { scope.known < 2 ^ 63 }
-    ensures { OnOk result (out.new.items ≡ out.old.items ++ item_moments (names known.now) scope class next joined end end.item) }
+    ensures { OnOk result (out.new.items ≡ out.old.items ++ item_moments (names known.now) scope met.class met.next met.joined met.end met.end.item) }
 {
-    match end.item {
-        Item::Declared(name, made) => {
-            push_named(out, known, scope, class, next, joined, end, name, made)
-        }
-        Item::Made(made) => push_unnamed(out, known, scope, class, next, joined, end, made),
+    match met.end.item {
+        Item::Declared(name, made) => { push_named(out, known, scope, met, name, made) }
+        Item::Made(made) => push_unnamed(out, known, scope, met, made),
         Item::Name(word) => {
             if makes_new(known, scope, word) {
                 let made = Use {
                     class: word,
                     arguments: None,
                 };
-                push_unnamed(out, known, scope, class, next, joined, end, made)
+                push_unnamed(out, known, scope, met, made)
             } else {
-                push_leaving_out(out, known, class, next, joined, end)
+                push_leaving_out(out, known, met)
             }
         }
     }
@@ -277,18 +277,15 @@ fn push_whole_end(
     out: &mut Vec<Moment>,
     known: &Known<'_>,
     scope: Scope,
-    class: Option<usize>,
-    next: bool,
-    joined: bool,
-    end: End,
+    met: Met,
 ) -> Result<(), AllocError>
     requires tables { AreTables known.now }
     requires bound { scope.known < 2 ^ 63 }
-    ensures { OnOk result (out.new.items ≡ out.old.items ++ whole_end (names known.now) scope class next joined end) }
+    ensures { OnOk result (out.new.items ≡ out.old.items ++ whole_end (names known.now) scope met.class met.next met.joined met.end) }
 {
-    push_written(out, known, class, b"input", end.input)?;
-    push_item(out, known, scope, class, next, joined, end)?;
-    push_written(out, known, class, b"output", end.output)
+    push_written(out, known, met.class, b"input", met.end.input)?;
+    push_item(out, known, scope, met)?;
+    push_written(out, known, met.class, b"output", met.end.output)
 }
 
 #[tactic(auto, unfolding(crate::specs::Moments::end_moments))]
@@ -304,8 +301,30 @@ fn push_end(
     requires bound { scope.known < 2 ^ 63 }
     ensures { OnOk result (out.new.items ≡ out.old.items ++ end_moments (names known.now) scope next joined end) }
 {
-    let class = item_class(known, scope, end.item);
-    push_whole_end(out, known, scope, class, next, joined, end)
+    let met = Met {
+        end,
+        class: item_class(known, scope, end.item),
+        next,
+        joined,
+    };
+    push_whole_end(out, known, scope, met)
+}
+
+#[tactic(auto, unfolding(crate::specs::Moments::rooming))]
+fn push_rooming(
+    out: &mut Vec<Moment>,
+    known: &Known<'_>,
+    scope: Scope,
+    made: Use,
+    waiting: &[Word],
+) -> Result<(), AllocError>
+    requires { AreTables known.now }
+    ensures { OnOk result (out.new.items ≡ out.old.items ++ rooming (names known.now) scope made waiting.now) }
+{
+    if class_of_word(known, scope, made.class).is_none() {
+        out.push(Moment::Room(waiting.len(), made))?;
+    }
+    Ok(())
 }
 
 #[tactic(auto, unfolding(crate::specs::Moments::group_moments))]
@@ -389,6 +408,7 @@ fn push_part(
         Part::Declared(word) => push_naming(out, known, scope, word),
         Part::Made(made) => {
             push_using(out, known, scope, made.class)?;
+            push_rooming(out, known, scope, made, waiting)?;
             push_group(out, known, scope, made, waiting)
         }
         Part::First(end) => push_end(out, known, scope, false, joined, end),

@@ -2,7 +2,7 @@
 ghost use Rattle.std.specs.Prelude.{◌≡◌, ◌+◌, ◌<◌, ◌≤◌, ◌^◌};
 ghost use Rattle.mt_click.specs.Scopes.{behind, scope_number};
 
-use crate::part::Part;
+use mt_syntax::Part;
 
 /// Where a part stands: whether it is in the body of a class, and how many classes end before it.
 #[derive(Clone, Copy, Debug, PartialEq, Eq)]

@@ -6,9 +6,8 @@ ghost use Rattle.mt_click.specs.Moments.{declared_place, place_at, name_side, it
 use crate::known::{Known, is_pseudo_name, place_declared};
 use crate::moment::Side;
 use crate::names::port_number;
-use crate::part::{End, Item, Part, Word};
 use crate::scope::Scope;
-use crate::words::word_bytes;
+use mt_syntax::{End, Item, Part, Word, word_bytes};
 
 // Where what is declared at a place among the names is made.
 fn place_made(known: &Known<'_>, at: usize, place: Option<usize>) -> usize

@@ -3,9 +3,8 @@ ghost use Rattle.std.specs.Prelude.{◌≡◌, IfOk};
 ghost use Rattle.mt_click.specs.Names.{first_entry};
 ghost use Rattle.mt_click.specs.Tables.{IsTable};
 
-use crate::part::Word;
-use crate::words::word_bytes;
 use indexmap::IndexMap;
+use mt_syntax::{Word, word_bytes};
 use std::alloc::{AllocError, Global};
 
 /// What is declared under a word, in the scope of a number: a class, an element, or a port of a class

@@ -1,24 +1,21 @@
 //! The moves of the walk: what each moment adds to the elements that are there.
 ghost use Rattle.std.specs.Prelude.{◌≡◌, ◌+◌, ◌++◌, ◌≤◌, ◌<◌, [], length, drop, map, true, IfOk, OnOk};
 ghost use Rattle.std.specs.List.{prefix_len};
-ghost use Rattle.mt_click.specs.Comment.{bare};
-ghost use Rattle.mt_click.specs.Reading.{Gives};
-ghost use Rattle.mt_click.specs.Words.{bytes_of, inner};
-ghost use Rattle.mt_click.specs.Walk.{arguments_in, shown_place, unknown_place, known_names, scope_text, own_name, element_of, is_parameter_moment, body_of, parameters, counted, element_moved, entered, moved, with_join};
+ghost use Rattle.mt_syntax.specs.Comment.{bare};
+ghost use Rattle.mt_syntax.specs.Reading.{Gives};
+ghost use Rattle.mt_syntax.specs.Words.{bytes_of, inner};
+ghost use Rattle.mt_click.specs.Elements.{arguments_in, scope_text, own_name, element_of, with_join};
+ghost use Rattle.mt_click.specs.Walk.{shown_place, unknown_place, known_names, is_parameter_moment, body_of, parameters, counted, element_moved, roomed, entered, moved};
 ghost use Rattle.mt_click.specs.Stacks.{bodies, numbers, top_bindings, top_around, place_of, state};
 
-use crate::arguments::{arguments_of, shown_of};
 use crate::built::{Built, Joined, Made, Thing};
-use crate::comment::{Comment, comment_of};
 use crate::element::Element;
-use crate::fault::{ClickWhy, Fault, ReadError};
 use crate::moment::{Moment, Side};
-use crate::part::{Use, Word};
-use crate::place::place_of;
-use crate::replacing::{Binding, first_unknown, replaced};
 use crate::resolving::place_of_own;
-use crate::text::{Text, Texts};
-use crate::words::{inner_bytes, word_bytes};
+use mt_syntax::{
+    Binding, ClickWhy, Comment, Fault, ReadError, Text, Texts, Use, Word, arguments_of, comment_of,
+    first_unknown, inner_bytes, place_of, replaced, shown_of, word_bytes,
+};
 use std::alloc::{AllocError, Global};
 
 /// The most elements that a configuration may have.
@@ -62,7 +59,7 @@ pub fn text_of(alloc: Global, bytes: &[u8]) -> Result<Text, AllocError>
 
 /// The arguments of a use, with each parameter of the class around it replaced before they are
 /// separated.
-#[tactic(auto, unfolding(crate::specs::Walk::arguments_in))]
+#[tactic(auto, unfolding(crate::specs::Elements::arguments_in))]
 fn arguments_of_use(
     alloc: Global,
     text: &[u8],
@@ -159,7 +156,7 @@ fn push_own(name: &mut Vec<u8>, text: &[u8], own: Option<Word>) -> Result<(), Al
     }
 }
 
-#[tactic(auto, unfolding(crate::specs::Walk::element_of))]
+#[tactic(auto, unfolding(crate::specs::Elements::element_of))]
 fn element(
     alloc: Global,
     text: &[u8],
@@ -289,6 +286,20 @@ fn push_element(
     Ok(None)
 }
 
+// Whether so many more elements have room.
+#[tactic(auto, unfolding(crate::specs::Walk::roomed))]
+fn check_room(built: &Built, number: usize, made: Use) -> Result<Option<Entered>, ReadError>
+    ensures { Gives (λ e. (state built.now, e)) result (roomed (state built.now) number made) }
+{
+    if number > MOST_ELEMENTS || built.elements.len() > MOST_ELEMENTS - number {
+        return Err(ReadError::Fault(Fault {
+            why: ClickWhy::TooManyElements,
+            at: made.class.from,
+        }));
+    }
+    Ok(None)
+}
+
 #[tactic(auto, unfolding(crate::specs::Walk::entered))]
 fn enter(
     alloc: Global,
@@ -355,6 +366,7 @@ pub fn move_on(
             count(alloc, source, bindings_around(frames), class, made)?;
             Ok(None)
         }
+        Moment::Room(number, made) => check_room(built, number, made),
         Moment::Element(own, made) => { push_element(alloc, source, frames, own, made, built) }
         Moment::Enter(class, made, place) => {
             enter(alloc, source, frames, class, made, place, built)

@@ -1,12 +1,23 @@
-use Rattle.mt_click.proofs.Within.{within, at_most}
-use Rattle.mt_click.proofs.OneList.{one_graph}
+use Rattle.mt_click.proofs.Denoted.{parses, refuses, only_found, few_found, within_found, names_found, arguments_found}
 use Rattle.mt_click.proofs.configuration.parse.Goals as goal
 
-pub returns-in-Ok-clause-few : goal.returns-in-Ok-clause-few
-returns-in-Ok-clause-few c = at_most c.args.text.now c.in-Ok.graph c.in-Ok.ensures
+pub returns-clause-exact : goal.returns-clause-exact
+returns-clause-exact c = parses c.args.text.now c.found.result c.found.ensures
 
-pub returns-in-Ok-clause-within : goal.returns-in-Ok-clause-within
-returns-in-Ok-clause-within c = within c.args.text.now c.in-Ok.graph c.in-Ok.ensures
+pub returns-clause-none : goal.returns-clause-none
+returns-clause-none c = refuses c.args.text.now c.found.result c.found.ensures
 
-pub returns-in-Ok-clause-only : goal.returns-in-Ok-clause-only
-returns-in-Ok-clause-only c = λ other is. one_graph c.args.text.now other c.in-Ok.graph is c.in-Ok.ensures
+pub returns-clause-only : goal.returns-clause-only
+returns-clause-only c = only_found c.args.text.now c.found.result c.found.ensures
+
+pub returns-clause-few : goal.returns-clause-few
+returns-clause-few c = few_found c.args.text.now c.found.result c.found.ensures
+
+pub returns-clause-within : goal.returns-clause-within
+returns-clause-within c = within_found c.args.text.now c.found.result c.found.ensures
+
+pub returns-clause-names : goal.returns-clause-names
+returns-clause-names c = names_found c.args.text.now c.found.result c.found.ensures
+
+pub returns-clause-arguments : goal.returns-clause-arguments
+returns-clause-arguments c = arguments_found c.args.text.now c.found.result c.requires c.found.ensures

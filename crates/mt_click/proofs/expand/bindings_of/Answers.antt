@@ -1,6 +1,6 @@
 use Rattle.std.proofs.Common.{◌++◌, List, sym, ap, ◌∙◌}
 use Rattle.std.proofs.lemmas.List.{append-nil}
-use Rattle.mt_click.specs.declared.replacing.Binding.{Binding}
+use Rattle.mt_syntax.specs.declared.replacing.Binding.{Binding}
 use Rattle.mt_click.proofs.Uses.{bound_none}
 use Rattle.mt_click.proofs.expand.bindings_of.Goals as goal
 

@@ -1,6 +1,7 @@
 use Rattle.std.proofs.Common.{◌≡◌, ◌≤◌, ◌+◌, false, length}
 use Rattle.mt_click.specs.Stacks.{bodies, state}
-use Rattle.mt_click.specs.Walk.{walk_all, empty}
+use Rattle.mt_click.specs.Elements.{empty}
+use Rattle.mt_click.specs.Walk.{walk_all}
 use Rattle.mt_click.proofs.expand.walk_source.Given as goal
 
 abbrev pub invariant-loop-rest : goal.invariant-loop-rest

@@ -1,6 +1,7 @@
 use Rattle.std.proofs.Common.{◌≡◌}
 use Rattle.mt_click.specs.Stacks.{bodies, state}
-use Rattle.mt_click.specs.Walk.{enter, entering, top}
+use Rattle.mt_click.specs.Elements.{top}
+use Rattle.mt_click.specs.Walk.{enter, entering}
 use Rattle.mt_click.specs.Runs.{run_all, cost_all}
 use Rattle.mt_click.proofs.expand.walk_use.Given as goal
 

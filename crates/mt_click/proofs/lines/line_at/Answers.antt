@@ -1,5 +1,5 @@
 use Rattle.std.proofs.Common.{arith}
-use Rattle.mt_click.proofs.Feeds.{line_more}
+use Rattle.mt_syntax.proofs.Feeds.{line_more}
 use Rattle.mt_click.proofs.lines.line_at.Goals as goal
 
 pub returns-then-at-text : goal.returns-then-at-text

@@ -1,8 +1,8 @@
 use Rattle.std.proofs.Common.{◌≡◌, ◌+◌, ◌-◌, ◌<◌, drop, get_or, ap, arith, length-drop}
 use Rattle.std.specs.Prelude.{Option, List, ℕ}
-use Rattle.mt_click.specs.Comment.{hidden}
+use Rattle.mt_syntax.specs.Comment.{hidden}
 use Rattle.mt_click.specs.Walk.{shown_place}
-use Rattle.mt_click.proofs.Comments.{hidden_skip, hidden_absent, hidden_closed, hidden_open, hidden_end}
+use Rattle.mt_syntax.proofs.Comments.{hidden_skip, hidden_absent, hidden_closed, hidden_open, hidden_end}
 use Rattle.mt_click.proofs.Shown.{hidden_place, place_here, place_more, place_nothings, place_end}
 use Rattle.mt_click.proofs.walk.place_shown.Goals as goal
 use Rattle.mt_click.proofs.walk.place_shown.Goals.{in-Closed, in-Absent+else-left-eq0}

@@ -1,5 +1,5 @@
 use Rattle.std.proofs.Common.{◌≡◌, ◌+◌, drop}
-use Rattle.mt_click.specs.Comment.{hidden}
+use Rattle.mt_syntax.specs.Comment.{hidden}
 use Rattle.mt_click.specs.Walk.{shown_place}
 use Rattle.mt_click.proofs.walk.place_shown.Given as goal
 

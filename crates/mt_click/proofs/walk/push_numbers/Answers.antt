@@ -1,6 +1,6 @@
 use Rattle.std.proofs.Common.{◌++◌, ◌∷◌, [], ◌-◌, List, ℕ, length, take, drop, ap, sym, ◌∙◌, append_assoc}
 use Rattle.std.specs.Fmt.{decimal}
-use Rattle.mt_click.specs.Walk.{scope_text}
+use Rattle.mt_click.specs.Elements.{scope_text}
 use Rattle.mt_click.specs.Stacks.{numbers}
 use Rattle.mt_click.proofs.Uses.{numbers_step}
 use Rattle.mt_click.proofs.walk.push_numbers.Goals as goal

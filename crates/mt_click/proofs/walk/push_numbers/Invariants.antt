@@ -1,5 +1,5 @@
 use Rattle.std.proofs.Common.{◌≡◌, ◌++◌, length}
-use Rattle.mt_click.specs.Walk.{scope_text}
+use Rattle.mt_click.specs.Elements.{scope_text}
 use Rattle.mt_click.specs.Stacks.{numbers}
 use Rattle.mt_click.proofs.walk.push_numbers.Given as goal
 

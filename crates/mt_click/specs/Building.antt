@@ -1,0 +1,36 @@
+-- What a text builds, as it is walked: its graph, or the first fault.
+use Rattle.std.specs.Prelude.{◌≡◌, ◌⊎◌, ℕ, List, Result, Ok, Err}
+use Rattle.mt_syntax.specs.declared.fault.Fault.{Fault}
+use Rattle.mt_syntax.specs.declared.fault.ClickFault.{ClickFault}
+use Rattle.mt_syntax.specs.declared.fault.ReadError.{ReadError}
+use Rattle.mt_syntax.specs.declared.fault.ReadError.TheVariants as errors
+use Rattle.mt_syntax.specs.Place.{no_memory, placed}
+use Rattle.mt_syntax.specs.Reading.{◌>>=◌, parts_in}
+use Rattle.mt_click.specs.declared.graph.Graph.{Graph}
+use Rattle.mt_click.specs.Elements.{State}
+use Rattle.mt_click.specs.Links.{links_in}
+use Rattle.mt_click.specs.Moments.{moments_in}
+use Rattle.mt_click.specs.Walk.{Walked, walked}
+use Rattle.mt_click.specs.Wires.{AreWires}
+
+-- Faults of reading come first, and then the first that the walk meets.
+abbrev pub built_in : List ℕ → Walked
+built_in text = parts_in text >>= λ ps. walked text (moments_in text ps)
+
+-- The walk over the text comes to its end; its elements are the graph's, and the wires of its connections.
+pub record IsWalked (text : List ℕ) (g : Graph) : Type 0 where
+  pub state : State
+  pub walk : built_in text ≡ Ok state
+  pub elements : g.elements.items ≡ state.elements
+  pub wires : AreWires text (links_in state) g.wires.items
+
+-- what a function returned, unless memory ran out
+abbrev pub Walks : List ℕ → Result Graph ReadError → Type 0
+Walks text (Ok g) = IsWalked text g
+Walks text (Err errors.Memory) = Unit {0}
+Walks text (Err (errors.Fault f)) = built_in text ≡ Err f
+
+-- the same with line and column
+abbrev pub Finds : List ℕ → Result Graph ClickFault → Type 0
+Finds text (Ok g) = IsWalked text g
+Finds text (Err e) = (e ≡ no_memory) ⊎ ((f : Fault) × (built_in text ≡ Err f) × (e ≡ placed text f))

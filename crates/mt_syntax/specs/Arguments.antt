@@ -1,0 +1,39 @@
+-- The arguments of an argument text.
+use Rattle.std.specs.Prelude.{ℕ, List, [], ◌∷◌, ◌++◌, length, map, Bool, true, false, ◌&&◌, not, ◌==◌, if◌then◌else◌}
+use Rattle.std.specs.List.{flat_map, list_all}
+use Rattle.std.specs.Option.{option_to_list}
+use Rattle.mt_syntax.specs.Byte.{is_white}
+use Rattle.mt_syntax.specs.Comment.{bare}
+use Rattle.mt_syntax.specs.Closing.{depth_after}
+
+-- a text without its comments
+abbrev pub shown : List ℕ → List ℕ
+shown text = flat_map option_to_list (bare text)
+
+-- White space becomes one space where something that is no white space stands right before it and
+-- something stands behind it still; all other white space goes.
+unfoldable pub tidy_after : Bool → List ℕ → List ℕ
+tidy_after before [] = []
+tidy_after before (b ∷ bs) =
+    if is_white b then (if before && not (list_all is_white bs) then 32 ∷ tidy_after false bs else tidy_after false bs)
+    else b ∷ tidy_after true bs
+
+-- a byte behind others, with a space between where white space separates them
+abbrev pub joined : List ℕ → Bool → ℕ → List ℕ
+joined bytes gap b = if gap && not (length bytes == 0) then bytes ++ 32 ∷ b ∷ [] else bytes ++ b ∷ []
+
+abbrev pub tidy : List ℕ → List ℕ
+tidy text = tidy_after false text
+
+-- a byte in front of the first part
+abbrev pub onto : ℕ → List (List ℕ) → List (List ℕ)
+onto b [] = (b ∷ []) ∷ []
+onto b (part ∷ parts) = (b ∷ part) ∷ parts
+
+-- what stands between the commas outside parentheses
+unfoldable pub parts_of : ℕ → List ℕ → List (List ℕ)
+parts_of depth [] = [] ∷ []
+parts_of depth (b ∷ bs) = if b == 44 && depth == 0 then [] ∷ parts_of depth bs else onto b (parts_of (depth_after depth b) bs)
+
+unfoldable pub separated : List ℕ → List (List ℕ)
+separated text = if list_all is_white text then [] else map tidy (parts_of 0 text)

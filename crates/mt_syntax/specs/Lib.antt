@@ -1,0 +1,16 @@
+pub mod Byte
+pub mod Comment
+pub mod Closing
+pub mod Piece
+pub mod Tokens
+pub mod Arguments
+pub mod Reading
+pub mod Place
+pub mod Replacing
+pub mod Spelled
+pub mod Grammar
+pub mod Derives
+pub mod Stopping
+pub mod Words
+pub mod Ascends
+pub mod Balance

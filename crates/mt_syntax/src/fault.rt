@@ -1,0 +1,79 @@
+//! Why a text is no configuration.
+ghost use Rattle.std.specs.Prelude.{◌≡◌};
+ghost use Rattle.mt_syntax.specs.declared.fault.ReadError.TheVariants.{Memory};
+
+use std::alloc::{AllocError, AllocFailed};
+use thiserror::Error;
+
+/// What is wrong with a configuration.
+#[derive(Clone, Copy, Debug, PartialEq, Eq, Error)]
+pub enum ClickWhy {
+    /// A byte that begins no token, a comment or an argument text that is not closed.
+    #[error("Lex")]
+    Lex,
+    /// A token with which what precedes begins no configuration.
+    #[error("Syntax")]
+    Syntax,
+    /// A class or an element that is declared a second time in its scope.
+    #[error("Redeclared")]
+    Redeclared,
+    /// A `$` name in an argument text that is no parameter of the class.
+    #[error("UnknownName")]
+    UnknownName,
+    /// A use with another number of arguments than its class has parameters.
+    #[error("Arity")]
+    Arity,
+    /// A connection to a port that the body of the class never names.
+    #[error("NoPort")]
+    NoPort,
+    /// A class that uses itself.
+    #[error("Recursive")]
+    Recursive,
+    /// A 513th element.
+    #[error("TooManyElements")]
+    TooManyElements,
+    /// Memory ran out.
+    #[error("NoMemory")]
+    NoMemory,
+}
+
+/// The first fault of a text: lines and columns are counted from 1, columns in bytes. Both are 0
+/// where memory ran out.
+#[derive(Clone, Copy, Debug, PartialEq, Eq)]
+pub struct ClickFault {
+    pub why: ClickWhy,
+    pub line: u32,
+    pub column: u32,
+}
+
+/// A fault, and the byte of the text at which it stands, counted from 0.
+#[derive(Clone, Copy, Debug, PartialEq, Eq)]
+pub struct Fault {
+    pub why: ClickWhy,
+    pub at: usize,
+}
+
+/// Why a list of parts could not be made.
+#[derive(Clone, Copy, Debug, PartialEq, Eq)]
+pub enum ReadError {
+    /// Memory ran out.
+    Memory,
+    /// The text has a fault.
+    Fault(Fault),
+}
+
+impl From<AllocError> for ReadError {
+    ghost from_gives = { λ _ e. e ≡ Memory };
+
+    fn from(_e: AllocError) -> ReadError {
+        ReadError::Memory
+    }
+}
+
+impl<T: Drop> From<AllocFailed<T>> for ReadError {
+    ghost from_gives = { λ _ e. e ≡ Memory };
+
+    fn from(_e: AllocFailed<T>) -> ReadError {
+        ReadError::Memory
+    }
+}
