@@ -3,3 +3,6 @@ pub mod Capture
 pub mod Text
 pub mod Laws
 pub mod Facts
+pub mod Merge
+pub mod MergeFacts
+pub mod MergeLaws

@@ -1,5 +1,6 @@
 //! The laws of the words that the contracts use.
 ghost use Rattle.mt_pcap.specs.Laws.{CaptureStands, CaptureStandsAlone, CaptureReadsBack, CaptureIsSound};
+ghost use Rattle.mt_pcap.specs.MergeLaws.{MergeOfOne};
 
 /// All bytes stand, in the words of the file format, for the capture that is read of them.
 pub fn capture_stands()
@@ -20,4 +21,9 @@ pub fn capture_reads_back()
 /// of reading the file or of memory.
 pub fn capture_is_sound()
     ensures { CaptureIsSound }
+{}
+
+/// A capture that is merged alone gives its records, whatever their times, and ends as it ends.
+pub fn merge_of_one()
+    ensures { MergeOfOne }
 {}

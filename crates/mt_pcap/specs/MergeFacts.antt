@@ -1,0 +1,56 @@
+-- What holds of the frames that a merge gives, whatever the captures.
+use Rattle.std.specs.Prelude.{◌≡◌, ◌<◌, ◌≤◌, ◌⊎◌, ℕ, ◌+◌, ◌==◌, List, [], ◌∷◌, ◌++◌, map, slice_get, Some, None, All, ⊤}
+use Rattle.std.specs.List.{filter}
+use Rattle.mt_packet.specs.declared.frame.Stamped.{Stamped}
+use Rattle.mt_pcap.specs.declared.fault.PcapFault.{PcapFault}
+use Rattle.mt_pcap.specs.declared.merging.Merged.{Merged}
+use Rattle.mt_pcap.specs.Capture.{Capture}
+use Rattle.mt_pcap.specs.Merge.{Merge}
+
+-- a merge that was made
+abbrev pub merge_seen : Merged → Merge
+merge_seen m = record { frames = m.frames.items; end = m.end }
+
+-- the frames are numbered from 0
+abbrev pub AreNumbered : List Stamped → Type 0
+AreNumbered frames = (k : ℕ) (frame : Stamped) → slice_get frames k ≡ Some frame → frame.number ≡ k
+
+-- the frames of a device as records, in their order
+abbrev pub of_device : ℕ → List Stamped → List (ℕ × List ℕ)
+of_device device frames = map (λ f. (f.stamp, f.frame)) (filter (λ f. f.device == device) frames)
+
+-- the first elements of a list, or all
+pub record IsFront (front all : List (ℕ × List ℕ)) : Type 0 where
+  pub rest : List (ℕ × List ℕ)
+  pub parts : all ≡ front ++ rest
+
+-- the frames of each device are the first records of its capture
+abbrev pub AreFronts : List Capture → List Stamped → Type 0
+AreFronts captures frames = (k : ℕ) (c : Capture) → slice_get captures k ≡ Some c → IsFront (of_device (k + 1) frames) c.records
+
+-- the frames of each device are the records of its capture
+abbrev pub AreAll : List Capture → List Stamped → Type 0
+AreAll captures frames = (k : ℕ) (c : Capture) → slice_get captures k ≡ Some c → of_device (k + 1) frames ≡ c.records
+
+-- A device's capture ends with a fault, all its records were given, and no lower device is so.
+pub record IsMet (captures : List Capture) (frames : List Stamped) (device : ℕ) (fault : PcapFault) : Type 0 where
+  pub place : ℕ
+  pub capture : Capture
+  pub device_is : device ≡ place + 1
+  pub there : slice_get captures place ≡ Some capture
+  pub end_is : capture.end ≡ Some fault
+  pub given : of_device device frames ≡ capture.records
+  pub lowest : (k : ℕ) (c : Capture) → k < place → slice_get captures k ≡ Some c → of_device (k + 1) frames ≡ c.records → c.end ≡ None
+
+-- each element of a list stands so to all behind it
+abbrev pub Ascends : {X : Type 0} → (X → X → Type 0) → List X → Type 0
+Ascends R [] = ⊤
+Ascends R (x ∷ xs) = All (R x) xs × Ascends R xs
+
+-- the times of a capture's records do not fall
+abbrev pub IsInOrder : Capture → Type 0
+IsInOrder c = Ascends (λ r s. r.0 ≤ s.0) c.records
+
+-- a frame is earlier than another, or of equal time and of no higher device
+abbrev pub IsNoLater : Stamped → Stamped → Type 0
+IsNoLater f g = (f.stamp < g.stamp) ⊎ ((f.stamp ≡ g.stamp) × (f.device ≤ g.device))
