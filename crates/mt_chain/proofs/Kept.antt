@@ -12,11 +12,14 @@ use Rattle.mt_packet.specs.declared.flow.Flow.{Flow}
 use Rattle.mt_packet.specs.declared.layer.Layer.{Layer}
 use Rattle.mt_packet.specs.declared.layer.Layer.TheVariants.{Frame, Bare, Ip, Framed}
 use Rattle.mt_elements.specs.declared.kind.Kind.{Kind}
-use Rattle.mt_elements.specs.declared.kind.Kind.TheVariants.{FromDevice, ToDevice, Classifier, Discard, Null, Counter, Queue, Paint, PaintSwitch, EtherMirror, Strip, CheckIPHeader, EtherEncap, DecIPTTL, SetIPDSCP, StoreIPAddress, GetIPAddress, IPMirror}
+use Rattle.mt_elements.specs.declared.kind.Kind.TheVariants.{FromDevice, ToDevice, Classifier, Discard, Null, Counter, Queue, Paint, PaintSwitch, EtherMirror, Strip, CheckIPHeader, EtherEncap, DecIPTTL, SetIPDSCP, StoreIPAddress, GetIPAddress, IPMirror, IPFilter, IPClassifier, Route}
 use Rattle.mt_elements.specs.Layers.{is_ip}
+use Rattle.mt_elements.specs.declared.hop.Hop.{Hop}
+use Rattle.mt_elements.specs.declared.rule.FilterAction.{FilterAction}
+use Rattle.mt_elements.specs.declared.rule.FilterAction.TheVariants.{Deny, Out}
 use Rattle.mt_chain.specs.declared.step.Step.{Step}
 use Rattle.mt_chain.specs.Pattern.{is_whole}
-use Rattle.mt_chain.specs.Step.{stateless_step, refused, at_ethernet, at_bare, at_ip, by_pattern, has_run_out, address_of, addresses_swapped, ports_swapped}
+use Rattle.mt_chain.specs.Step.{stateless_step, refused, at_ethernet, at_bare, at_ip, by_pattern, has_run_out, address_of, addresses_swapped, ports_swapped, by_action, by_ip_pattern, towards, by_hop}
 use Rattle.mt_elements.specs.Parts.{Parts}
 use Rattle.mt_chain.specs.declared.run.Fate.{Fate}
 use Rattle.mt_chain.specs.declared.run.Fate.TheVariants.{Sent, Dropped}
@@ -159,6 +162,22 @@ ports_kept : (p : PacketState) (flow : Option Flow) → IsKept p (ports_swapped 
 ports_kept p (Some flow) = two_fields_kept p of.Sport of.Dport _ _
 ports_kept p None = same p
 
+action_kept : (p : PacketState) (action : FilterAction) → Keeps p (by_action p action)
+action_kept p Deny = same p
+action_kept p (Out number) = same p
+
+ip_pattern_kept : (p : PacketState) (found : Option ℕ) → Keeps p (by_ip_pattern p found)
+ip_pattern_kept p (Some number) = same p
+ip_pattern_kept p None = same p
+
+towards_kept : (p : PacketState) (gateway : Option ℕ) → IsKept p (towards p gateway)
+towards_kept p (Some gateway) = field_kept p of.Annotation gateway
+towards_kept p None = same p
+
+hop_kept : (p : PacketState) (found : Option Hop) → Keeps p (by_hop p found)
+hop_kept p (Some hop) = towards_kept p hop.gateway
+hop_kept p None = same p
+
 pub step_kept : (kind : Kind) (p : PacketState) → Keeps p (stateless_step kind p)
 unfolding stateless_step
 step_kept (FromDevice device) p = same p
@@ -179,6 +198,9 @@ step_kept (SetIPDSCP point) p = where_ip p _ (λ _. by_test p (nat_le point 63) 
 step_kept (StoreIPAddress address which) p = where_ip p _ (λ _. field_kept p (address_of which) address)
 step_kept GetIPAddress p = where_ip p _ (λ _. field_kept p of.Annotation _)
 step_kept IPMirror p = where_ip p _ (λ _. twice p _ _ (two_fields_kept p of.Src of.Dst _ _) (ports_kept (addresses_swapped p) (packet_flow p)))
+step_kept (IPFilter rules) p = where_ip p _ (λ _. action_kept p _)
+step_kept (IPClassifier patterns) p = where_ip p _ (λ _. ip_pattern_kept p _)
+step_kept (Route hops) p = where_ip p _ (λ _. hop_kept p _)
 
 -- ---- a run
 

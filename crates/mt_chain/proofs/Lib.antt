@@ -1,5 +1,8 @@
 pub mod Entries
+mod Fields
 mod Kept
+mod Longest
+mod Outputs
 mod Positions
 pub mod Sequence
 mod Sizes

@@ -6,7 +6,7 @@ use Rattle.std.proofs.lemmas.List.Quantifiers.{position-Some}
 use Rattle.std.proofs.lemmas.Option.{slice_get_cases, slice_get_within, slice_get-get_or, none-some}
 use Rattle.mt_packet.specs.Flow.{packet_flow}
 use Rattle.mt_packet.specs.Ipv4.{is_valid_ipv4}
-use Rattle.mt_packet.specs.Packet.{PacketState, has_ethernet, datagram_of, layer_below, layer_checked, with_field}
+use Rattle.mt_packet.specs.Packet.{PacketState, has_ethernet, datagram_of, layer_below, layer_checked, with_field, packet_header}
 use Rattle.mt_packet.specs.declared.cause.Cause.{Cause}
 use Rattle.mt_packet.specs.declared.cause.Cause.TheVariants as cause
 use Rattle.mt_packet.specs.declared.flow.Flow.{Flow}
@@ -16,15 +16,25 @@ use Rattle.mt_elements.specs.declared.kind.Clause.{Clause}
 use Rattle.mt_elements.specs.declared.kind.End.{End}
 use Rattle.mt_elements.specs.declared.kind.End.TheVariants.{Src, Dst}
 use Rattle.mt_elements.specs.declared.kind.Kind.{Kind}
-use Rattle.mt_elements.specs.declared.kind.Kind.TheVariants.{FromDevice, ToDevice, Classifier, Discard, Null, Counter, Queue, Paint, PaintSwitch, EtherMirror, Strip, CheckIPHeader, EtherEncap, DecIPTTL, SetIPDSCP, StoreIPAddress, GetIPAddress, IPMirror}
+use Rattle.mt_elements.specs.declared.kind.Kind.TheVariants.{FromDevice, ToDevice, Classifier, Discard, Null, Counter, Queue, Paint, PaintSwitch, EtherMirror, Strip, CheckIPHeader, EtherEncap, DecIPTTL, SetIPDSCP, StoreIPAddress, GetIPAddress, IPMirror, IPFilter, IPClassifier, Route}
+use Rattle.mt_elements.specs.declared.hop.Hop.{Hop}
+use Rattle.mt_elements.specs.declared.rule.FilterAction.{FilterAction}
+use Rattle.mt_elements.specs.declared.rule.FilterAction.TheVariants.{Deny, Out}
+use Rattle.mt_elements.specs.declared.rule.Rule.{Rule}
+use Rattle.mt_pattern.specs.declared.pattern.Pattern.{Pattern}
+use Rattle.mt_pattern.specs.declared.pattern.Pattern.TheVariants as pattern
 use Rattle.mt_elements.specs.Parts.{Parts}
 use Rattle.mt_elements.specs.Chain.{next_of, wired_of}
-use Rattle.mt_elements.specs.Layers.{takes, layer_behind, output_count, may_be_open, is_bare}
+use Rattle.mt_elements.specs.Layers.{takes, layer_behind, output_count, filter_outs, route_outs, may_be_open, is_bare}
 use Rattle.mt_elements.specs.Accepted.{IsKind, LeadsOn, IsAccepted}
 use Rattle.mt_chain.specs.declared.step.Step.{Step}
 use Rattle.mt_chain.specs.declared.step.Step.TheVariants.{Leaves, Sends, Drops}
 use Rattle.mt_chain.specs.Pattern.{is_whole, pattern_holds}
-use Rattle.mt_chain.specs.Step.{stateless_step, by_pattern, has_run_out, address_of, addresses_swapped, ports_swapped, unwired_cause}
+use Rattle.mt_chain.specs.Step.{stateless_step, by_pattern, has_run_out, address_of, addresses_swapped, ports_swapped, by_action, by_ip_pattern, towards, by_hop, unwired_cause}
+use Rattle.mt_chain.specs.Filter.{holds_on}
+use Rattle.mt_chain.specs.Route.{IsRoute}
+use Rattle.mt_chain.proofs.Longest.{is_route}
+use Rattle.mt_chain.proofs.Outputs.{action_within, hop_within}
 use Rattle.mt_chain.specs.Run.{TablesState, State, with_packet, element_step, by_wire, follow, goes_on, run_from, run_packet, is_entry, entry_of, IsThere}
 
 -- ---- a step
@@ -84,6 +94,22 @@ mirrored : (p q : PacketState) (wired : ℕ) (flow : Option Flow) → q.layer �
 mirrored p q wired (Some flow) e = (e, inl (omega arith))
 mirrored p q wired None e = (e, inl (omega arith))
 
+by_rules : (rules : List Rule) (p : PacketState) (wired : ℕ) (action : FilterAction) → ((n : ℕ) → action ≡ Out n → n < filter_outs rules) → Steps (IPFilter rules) p.layer wired (by_action p action)
+by_rules rules p wired Deny within = tt
+by_rules rules p wired (Out n) within = (refl, inl (within n refl))
+
+by_first_ip : (patterns : List Pattern) (p : PacketState) (wired : ℕ) (found : Option ℕ) → position (holds_on (packet_header p)) patterns ≡ found → Steps (IPClassifier patterns) p.layer wired (by_ip_pattern p found)
+by_first_ip patterns p wired (Some number) is = (refl, inl ((position-Some (holds_on (packet_header p)) patterns number pattern.True is).0))
+by_first_ip patterns p wired None is = tt
+
+sent_towards : (hops : List Hop) (p : PacketState) (wired out : ℕ) (gateway : Option ℕ) → out < route_outs hops → Steps (Route hops) p.layer wired (Some (towards p gateway, Leaves out))
+sent_towards hops p wired out (Some gateway) within = (refl, inl within)
+sent_towards hops p wired out None within = (refl, inl within)
+
+by_line : (hops : List Hop) (p : PacketState) (wired address : ℕ) (found : Option Hop) → IsRoute address hops found → Steps (Route hops) p.layer wired (by_hop p found)
+by_line hops p wired address (Some hop) there = sent_towards hops p wired hop.out hop.gateway (hop_within hops there.0 hop there.1.stands)
+by_line hops p wired address None nowhere = tt
+
 step_there : (kind : Kind) (p : PacketState) (wired : ℕ) → takes kind p.layer ≡ true → ((point : ℕ) → kind ≡ SetIPDSCP point → point ≤ 63) → Steps kind p.layer wired (stateless_step kind p)
 unfolding stateless_step
 step_there (FromDevice device) p wired h small = (refl, inl (omega arith))
@@ -107,6 +133,9 @@ step_there (SetIPDSCP point) p wired h small =
 step_there (StoreIPAddress address which) p wired h small = when (StoreIPAddress address which) p.layer wired _ _ _ h (stored p address wired which p.layer refl)
 step_there GetIPAddress p wired h small = when GetIPAddress p.layer wired _ _ _ h (refl, inl (omega arith))
 step_there IPMirror p wired h small = when IPMirror p.layer wired _ _ _ h (mirrored p (addresses_swapped p) wired (packet_flow p) refl)
+step_there (IPFilter rules) p wired h small = when (IPFilter rules) p.layer wired _ _ _ h (by_rules rules p wired _ (action_within (packet_header p) rules))
+step_there (IPClassifier patterns) p wired h small = when (IPClassifier patterns) p.layer wired _ _ _ h (by_first_ip patterns p wired _ refl)
+step_there (Route hops) p wired h small = when (Route hops) p.layer wired _ _ _ h (by_line hops p wired p.annotation _ (is_route p.annotation hops))
 
 -- ---- an output that leads nowhere
 

@@ -1,4 +1,6 @@
 pub mod Pattern
+pub mod Filter
+pub mod Route
 pub mod Step
 pub mod Run
 pub mod Kept

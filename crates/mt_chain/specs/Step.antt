@@ -3,9 +3,9 @@
 use Rattle.std.specs.Prelude.{◌≡◌, ℕ, ◌-◌, ◌==◌, Bool, nat_le, if◌then◌else◌, position, length, Option, Some, None}
 use Rattle.mt_packet.specs.Flow.{packet_flow}
 use Rattle.mt_packet.specs.Ipv4.{is_valid_ipv4}
-use Rattle.mt_packet.specs.Packet.{PacketState, has_ethernet, datagram_of, with_field, stripped, encapsulated, checked, IsChecked}
+use Rattle.mt_packet.specs.Packet.{PacketState, has_ethernet, packet_header, datagram_of, with_field, stripped, encapsulated, checked, IsChecked}
 use Rattle.mt_packet.specs.declared.cause.Cause.{Cause}
-use Rattle.mt_packet.specs.declared.cause.Cause.TheVariants.{Discarded, NoPaint, Classified, Short, BadIp}
+use Rattle.mt_packet.specs.declared.cause.Cause.TheVariants.{Discarded, NoPaint, Classified, Short, BadIp, Filtered, NoRoute}
 use Rattle.mt_packet.specs.declared.cause.Cause.TheVariants as cause
 use Rattle.mt_packet.specs.declared.field.Field.{Field}
 use Rattle.mt_packet.specs.declared.field.Field.TheVariants as of
@@ -15,9 +15,14 @@ use Rattle.mt_elements.specs.Layers.{is_ip}
 use Rattle.mt_elements.specs.declared.kind.End.{End}
 use Rattle.mt_elements.specs.declared.kind.End.TheVariants.{Src, Dst}
 use Rattle.mt_elements.specs.declared.kind.Kind.{Kind}
-use Rattle.mt_elements.specs.declared.kind.Kind.TheVariants.{FromDevice, ToDevice, Classifier, Discard, Null, Counter, Queue, Paint, PaintSwitch, EtherMirror, Strip, CheckIPHeader, EtherEncap, DecIPTTL, SetIPDSCP, StoreIPAddress, GetIPAddress, IPMirror}
+use Rattle.mt_elements.specs.declared.kind.Kind.TheVariants.{FromDevice, ToDevice, Classifier, Discard, Null, Counter, Queue, Paint, PaintSwitch, EtherMirror, Strip, CheckIPHeader, EtherEncap, DecIPTTL, SetIPDSCP, StoreIPAddress, GetIPAddress, IPMirror, IPFilter, IPClassifier, Route}
 use Rattle.mt_chain.specs.declared.step.Step.{Step}
 use Rattle.mt_chain.specs.declared.step.Step.TheVariants.{Leaves, Sends, Drops}
+use Rattle.mt_elements.specs.declared.hop.Hop.{Hop}
+use Rattle.mt_elements.specs.declared.rule.FilterAction.{FilterAction}
+use Rattle.mt_elements.specs.declared.rule.FilterAction.TheVariants.{Deny, Out}
+use Rattle.mt_chain.specs.Filter.{holds_on, action_on}
+use Rattle.mt_chain.specs.Route.{route_of}
 use Rattle.mt_chain.specs.Pattern.{value_of, is_whole, pattern_holds}
 
 -- ---- what may come of a step
@@ -85,6 +90,25 @@ abbrev pub ports_swapped : PacketState → Option Flow → PacketState
 ports_swapped packet (Some flow) = with_field (with_field packet of.Sport flow.dp) of.Dport flow.sp
 ports_swapped packet None = packet
 
+-- what a filter says is done
+abbrev pub by_action : PacketState → FilterAction → Option (PacketState × Step)
+by_action packet Deny = drops packet Filtered
+by_action packet (Out number) = leaves packet number
+
+abbrev pub by_ip_pattern : PacketState → Option ℕ → Option (PacketState × Step)
+by_ip_pattern packet (Some number) = leaves packet number
+by_ip_pattern packet None = drops packet Filtered
+
+-- a gateway as the annotation, where there is one
+abbrev pub towards : PacketState → Option ℕ → PacketState
+towards packet (Some gateway) = with_field packet of.Annotation gateway
+towards packet None = packet
+
+-- the line of a route table is followed
+abbrev pub by_hop : PacketState → Option Hop → Option (PacketState × Step)
+by_hop packet (Some hop) = leaves (towards packet hop.gateway) hop.out
+by_hop packet None = drops packet NoRoute
+
 -- ---- the step
 
 unfoldable pub stateless_step : Kind → PacketState → Option (PacketState × Step)
@@ -106,6 +130,9 @@ stateless_step (SetIPDSCP point) packet = at_ip packet (if nat_le point 63 then 
 stateless_step (StoreIPAddress address which) packet = at_ip packet (leaves (with_field packet (address_of which) address) 0)
 stateless_step GetIPAddress packet = at_ip packet (leaves (with_field packet of.Annotation (value_of packet of.Dst)) 0)
 stateless_step IPMirror packet = at_ip packet (leaves (ports_swapped (addresses_swapped packet) (packet_flow packet)) 0)
+stateless_step (IPFilter rules) packet = at_ip packet (by_action packet (action_on (packet_header packet) rules))
+stateless_step (IPClassifier patterns) packet = at_ip packet (by_ip_pattern packet (position (holds_on (packet_header packet)) patterns))
+stateless_step (Route hops) packet = at_ip packet (by_hop packet (route_of packet.annotation hops))
 
 -- the cause for which a packet is dropped at an output that leads nowhere, where it may lead nowhere
 abbrev pub unwired_cause : Kind → ℕ → Option Cause

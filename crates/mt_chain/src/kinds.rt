@@ -9,9 +9,11 @@ ghost use Rattle.mt_packet.specs.Packet.{datagram_of};
 ghost use Rattle.mt_elements.specs.Layers.{is_ip};
 ghost use Rattle.mt_chain.specs.Step.{stateless_step, address_of, IsSound};
 
+use crate::filter::{action, first_ip_pattern, header};
 use crate::pattern::{first_pattern, is_whole};
+use crate::route::route;
 use crate::step::Step;
-use mt_elements::{End, Kind, Patterns};
+use mt_elements::{End, FilterAction, Hops, IPPatterns, Kind, Patterns, Rules};
 use mt_packet::{Cause, Field, Layer, Packet, Writes};
 
 /// Does the step of an element on a packet. None where the element does not take the packet's layer, or
@@ -40,6 +42,9 @@ pub(crate) fn pass(kind: &Kind, packet: &mut Packet) -> Option<Step>
         Kind::StoreIPAddress(address, end) => store(packet, *address, *end),
         Kind::GetIPAddress => get_address(packet),
         Kind::IPMirror => mirror_ip(packet),
+        Kind::IPFilter(rules) => filter(packet, rules),
+        Kind::IPClassifier(patterns) => classify_ip(packet, patterns),
+        Kind::Route(hops) => follow(packet, hops),
     }
 }
 
@@ -294,4 +299,50 @@ fn mirror_ip(packet: &mut Packet) -> Option<Step>
         set(packet, Field::Dport, u64::from(flow.sp));
     }
     Some(Step::Leaves(0))
+}
+
+#[tactic(auto, unfolding(crate::specs::Step::stateless_step))]
+fn filter(packet: &Packet, rules: &Rules) -> Option<Step>
+    requires sound { IsSound packet.now }
+    ensures { option_map (λ step. (packet.now, step)) result ≡ stateless_step (kind.IPFilter rules.now) packet.now }
+{
+    if !is_at_ip(packet) {
+        return None;
+    }
+    match action(rules.as_slice(), &header(packet)) {
+        FilterAction::Out(out) => Some(Step::Leaves(out)),
+        FilterAction::Deny => Some(Step::Drops(Cause::Filtered)),
+    }
+}
+
+#[tactic(auto, unfolding(crate::specs::Step::stateless_step))]
+fn classify_ip(packet: &Packet, patterns: &IPPatterns) -> Option<Step>
+    requires sound { IsSound packet.now }
+    ensures { option_map (λ step. (packet.now, step)) result ≡ stateless_step (kind.IPClassifier patterns.now) packet.now }
+{
+    if !is_at_ip(packet) {
+        return None;
+    }
+    match first_ip_pattern(patterns.as_slice(), &header(packet)) {
+        Some(number) => Some(Step::Leaves(number as u32)),
+        None => Some(Step::Drops(Cause::Filtered)),
+    }
+}
+
+#[tactic(auto, using(crate::proofs::Sound::from_checked), unfolding(crate::specs::Step::stateless_step))]
+fn follow(packet: &mut Packet, hops: &Hops) -> Option<Step>
+    requires sound { IsSound packet.old }
+    ensures step { option_map (λ step. (packet.new, step)) result ≡ stateless_step (kind.Route hops.now) packet.old }
+    ensures sound { IsSound packet.new }
+{
+    if !is_at_ip(packet) {
+        return None;
+    }
+    let Some(hop) = route(hops.as_slice(), packet.field(Field::Annotation)) else {
+        return Some(Step::Drops(Cause::NoRoute));
+    };
+    if let Some(gateway) = hop.gateway {
+        set(packet, Field::Annotation, u64::from(gateway));
+    }
+    Some(Step::Leaves(hop.out))
 }

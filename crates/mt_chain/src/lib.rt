@@ -3,8 +3,10 @@
 #![tactic(auto)]
 
 mod entry;
+mod filter;
 mod kinds;
 mod pattern;
+mod route;
 mod run;
 mod step;
 mod tables;

@@ -8,5 +8,7 @@ pub mod Straight
 pub mod Branches
 pub mod Acceptance
 pub mod Spelled
+mod Cut
+pub mod Written
 mod Built
 mod Rows

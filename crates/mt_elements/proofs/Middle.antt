@@ -7,7 +7,7 @@ use Rattle.std.proofs.lemmas.Option.{option_and_then_some, cond_some, same_Some,
 use Rattle.std.proofs.lemmas.Bool.Decides.{nat_tests}
 use Rattle.mt_pattern.specs.Number.{number_of, number_up_to, address_of}
 use Rattle.mt_elements.specs.declared.kind.Kind.{Kind}
-use Rattle.mt_elements.specs.declared.kind.Kind.TheVariants.{FromDevice, ToDevice, Classifier, Discard, Null, Counter, Queue, Paint, PaintSwitch, EtherMirror, Strip, CheckIPHeader, EtherEncap, DecIPTTL, SetIPDSCP, StoreIPAddress, GetIPAddress, IPMirror}
+use Rattle.mt_elements.specs.declared.kind.Kind.TheVariants.{FromDevice, ToDevice, Classifier, Discard, Null, Counter, Queue, Paint, PaintSwitch, EtherMirror, Strip, CheckIPHeader, EtherEncap, DecIPTTL, SetIPDSCP, StoreIPAddress, GetIPAddress, IPMirror, IPFilter, IPClassifier, Route}
 use Rattle.mt_elements.specs.Middle.{IsMiddle}
 use Rattle.mt_elements.specs.Layers.{output_count, may_be_open}
 use Rattle.mt_elements.specs.Arguments.{is_number, is_keyword, mac_of, end_of}
@@ -22,6 +22,9 @@ has_output (FromDevice device) m = absurd m
 has_output (ToDevice device) m = absurd m
 has_output (Classifier patterns) m = absurd m
 has_output Discard m = absurd m
+has_output (IPFilter rules) m = absurd m
+has_output (IPClassifier patterns) m = absurd m
+has_output (Route hops) m = absurd m
 has_output CheckIPHeader m = omega arith
 has_output DecIPTTL m = omega arith
 has_output PaintSwitch m = omega arith
@@ -33,6 +36,9 @@ others_open (FromDevice device) out m other within = absurd m
 others_open (ToDevice device) out m other within = absurd m
 others_open (Classifier patterns) out m other within = absurd m
 others_open Discard out m other within = absurd m
+others_open (IPFilter rules) out m other within = absurd m
+others_open (IPClassifier patterns) out m other within = absurd m
+others_open (Route hops) out m other within = absurd m
 others_open CheckIPHeader out m other within = let one : out ≡ 1 = omega arith in ap (λ n. n == 1) one
 others_open DecIPTTL out m other within = let one : out ≡ 1 = omega arith in ap (λ n. n == 1) one
 others_open kind out m other within = absurd (omega arith)

@@ -2,11 +2,11 @@
 use Rattle.std.proofs.Common.{◌≡◌, [], ◌∷◌, Some, None, true, false, refl}
 use Rattle.std.specs.Prelude.{codes}
 use Rattle.mt_pattern.specs.Number.{decimal_value, hexadecimal_value, decimal_of, hexadecimal_of, number_of, number_up_to, decimal_up_to, address_of}
-use Rattle.mt_click.specs.Comment.{comment_at, hidden}
-use Rattle.mt_click.specs.Closing.{closing}
-use Rattle.mt_click.specs.Piece.{word_at, digits_at, parameter_at, arguments_at, pair_at, mark_of, mark_at, plain_at, piece_at}
-use Rattle.mt_click.specs.Tokens.{tokens_from}
-use Rattle.mt_click.specs.Arguments.{tidy_after, parts_of, separated}
+use Rattle.mt_syntax.specs.Comment.{comment_at, hidden}
+use Rattle.mt_syntax.specs.Closing.{closing}
+use Rattle.mt_syntax.specs.Piece.{word_at, digits_at, parameter_at, arguments_at, pair_at, mark_of, mark_at, plain_at, piece_at}
+use Rattle.mt_syntax.specs.Tokens.{tokens_from}
+use Rattle.mt_syntax.specs.Arguments.{tidy_after, parts_of, separated}
 use Rattle.mt_packet.specs.declared.layer.Layer.TheVariants.{Frame}
 use Rattle.mt_elements.specs.declared.kind.Clause.TheVariants.{EthType, EthDst, ArpOp}
 use Rattle.mt_elements.specs.declared.kind.End.TheVariants.{Dst}

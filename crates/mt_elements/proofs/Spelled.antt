@@ -6,12 +6,12 @@ use Rattle.std.proofs.lemmas.Bool.Decides.{nat_tests}
 use Rattle.std.proofs.lemmas.Slice.Eq.{bytes_eq-Decides}
 use Rattle.std.proofs.lemmas.List.{take_at}
 use Rattle.mt_pattern.specs.Number.{◌>>=◌}
-use Rattle.mt_click.specs.Tokens.{tokens_in}
-use Rattle.mt_click.specs.declared.token.Kind.{Kind}
-use Rattle.mt_click.specs.declared.token.Kind.TheVariants as kinds
-use Rattle.mt_click.specs.declared.token.Token.{Token}
-use Rattle.mt_click.specs.declared.part.Word.{Word}
-use Rattle.mt_click.specs.declared.part.Use.{Use}
+use Rattle.mt_syntax.specs.Tokens.{tokens_in}
+use Rattle.mt_syntax.specs.declared.token.Kind.{Kind}
+use Rattle.mt_syntax.specs.declared.token.Kind.TheVariants as kinds
+use Rattle.mt_syntax.specs.declared.token.Token.{Token}
+use Rattle.mt_syntax.specs.declared.part.Word.{Word}
+use Rattle.mt_syntax.specs.declared.part.Use.{Use}
 use Rattle.mt_packet.specs.declared.layer.Layer.TheVariants.{Frame}
 use Rattle.mt_elements.specs.declared.kind.Clause.{Clause}
 use Rattle.mt_elements.specs.declared.kind.Kind.{Kind as Element}

@@ -2,8 +2,8 @@
 use Rattle.std.proofs.Common.{◌≡◌, ℕ, suc, ◌+◌, ◌-◌, ◌<◌, ◌≤◌, true, false, List, [], ◌∷◌, ◌++◌, sym, ap, ◌∙◌, arith}
 use Rattle.std.specs.Prelude.{Option, Some, None, option_map, if◌then◌else◌}
 use Rattle.mt_pattern.specs.Number.{◌>>=◌}
-use Rattle.mt_click.specs.declared.token.Token.{Token}
-use Rattle.mt_click.specs.declared.part.Use.{Use}
+use Rattle.mt_syntax.specs.declared.token.Token.{Token}
+use Rattle.mt_syntax.specs.declared.part.Use.{Use}
 use Rattle.mt_elements.specs.declared.reading.Sign.TheVariants as signs
 use Rattle.mt_elements.specs.Reading.{sign_at, is_end, use_at, uses_from}
 use Rattle.mt_elements.proofs.Each.{in_front_none, in_front_more}

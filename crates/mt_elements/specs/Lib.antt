@@ -5,6 +5,10 @@ pub mod Accepted
 pub mod Arguments
 pub mod Patterns
 pub mod Classes
+pub mod Filters
+pub mod Routes
+pub mod Written
+pub mod Kinds
 pub mod Reading
 pub mod Shape
 pub mod Promises

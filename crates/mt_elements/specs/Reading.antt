@@ -2,11 +2,11 @@
 use Rattle.std.specs.Prelude.{ℕ, zero, suc, ◌-◌, Bool, true, false, ◌&&◌, ◌||◌, ◌==◌, nat_eq, if◌then◌else◌, List, [], ◌∷◌, codes, Option, Some, None, option_map, is_some}
 use Rattle.std.specs.List.{starts_with}
 use Rattle.mt_pattern.specs.Number.{◌>>=◌}
-use Rattle.mt_click.specs.declared.token.Kind.{Kind}
-use Rattle.mt_click.specs.declared.token.Kind.TheVariants as kinds
-use Rattle.mt_click.specs.declared.token.Token.{Token}
-use Rattle.mt_click.specs.declared.part.Word.{Word}
-use Rattle.mt_click.specs.declared.part.Use.{Use}
+use Rattle.mt_syntax.specs.declared.token.Kind.{Kind}
+use Rattle.mt_syntax.specs.declared.token.Kind.TheVariants as kinds
+use Rattle.mt_syntax.specs.declared.token.Token.{Token}
+use Rattle.mt_syntax.specs.declared.part.Word.{Word}
+use Rattle.mt_syntax.specs.declared.part.Use.{Use}
 use Rattle.mt_elements.specs.declared.reading.Sign.{Sign}
 use Rattle.mt_elements.specs.declared.reading.Sign.TheVariants as signs
 use Rattle.mt_elements.specs.declared.reading.Branching.{Branching}

@@ -2,11 +2,11 @@
 use Rattle.std.specs.Prelude.{ℕ, zero, suc, ◌+◌, ◌-◌, Bool, true, false, ◌&&◌, ◌||◌, ◌==◌, nat_lt, not, if◌then◌else◌, List, [], ◌∷◌, ◌++◌, map, take, drop, length, slice_get, Option, Some, None, codes}
 use Rattle.std.specs.Str.{bytes_eq}
 use Rattle.mt_pattern.specs.Number.{◌>>=◌}
-use Rattle.mt_click.specs.Arguments.{separated}
-use Rattle.mt_click.specs.Tokens.{tokens_in}
-use Rattle.mt_click.specs.declared.token.Token.{Token}
-use Rattle.mt_click.specs.declared.part.Word.{Word}
-use Rattle.mt_click.specs.declared.part.Use.{Use}
+use Rattle.mt_syntax.specs.Arguments.{separated}
+use Rattle.mt_syntax.specs.Tokens.{tokens_in}
+use Rattle.mt_syntax.specs.declared.token.Token.{Token}
+use Rattle.mt_syntax.specs.declared.part.Word.{Word}
+use Rattle.mt_syntax.specs.declared.part.Use.{Use}
 use Rattle.mt_packet.specs.declared.layer.Layer.{Layer}
 use Rattle.mt_packet.specs.declared.layer.Layer.TheVariants.{Frame}
 use Rattle.mt_elements.specs.declared.kind.Clause.{Clause}

@@ -1,10 +1,10 @@
 -- The two shapes as their tokens are written. Between tokens may stand any white space; names are any names.
 use Rattle.std.specs.Prelude.{◌≡◌, ◌≤◌, ℕ, ◌+◌, true, false, List, [], ◌∷◌, ◌++◌, length, Some, None, codes}
-use Rattle.mt_click.specs.Tokens.{tokens_in}
-use Rattle.mt_click.specs.declared.token.Kind.TheVariants as kinds
-use Rattle.mt_click.specs.declared.token.Token.{Token}
-use Rattle.mt_click.specs.declared.part.Word.{Word}
-use Rattle.mt_click.specs.declared.part.Use.{Use}
+use Rattle.mt_syntax.specs.Tokens.{tokens_in}
+use Rattle.mt_syntax.specs.declared.token.Kind.TheVariants as kinds
+use Rattle.mt_syntax.specs.declared.token.Token.{Token}
+use Rattle.mt_syntax.specs.declared.part.Word.{Word}
+use Rattle.mt_syntax.specs.declared.part.Use.{Use}
 use Rattle.mt_packet.specs.declared.layer.Layer.TheVariants.{Frame}
 use Rattle.mt_elements.specs.declared.kind.Clause.{Clause}
 use Rattle.mt_elements.specs.declared.kind.Kind.{Kind}

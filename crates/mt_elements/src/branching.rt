@@ -6,7 +6,7 @@ use crate::devices::{devices_of, output_of};
 use crate::reading::{Branching, as_branching};
 use crate::word::{arguments_of, device_of, is_class, text_of};
 use crate::{Chain, Kind, Patterns, Text, patterns_of};
-use mt_click::{Token, Use};
+use mt_syntax::{Token, Use};
 use std::alloc::{AllocError, Global};
 
 #[tactic(auto, unfolding(crate::specs::Shape::is_reserved))]

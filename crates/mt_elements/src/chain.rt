@@ -23,6 +23,11 @@ impl Model for Chain {
 
     ghost Value = { Parts };
 
+    ghost use Rattle.mt_pattern.specs.contracts.pattern.Pattern as pattern;
+    ghost use Rattle.std.specs.Coded.{codes};
+
+    ghost coded = { Prim.hlevel (codes, pattern.the_row.coded) };
+
     ghost view = { λ c. record { kinds = c.kinds.items; outputs = map (λ v. v.items) c.outputs.items; devices = c.devices.items; entries = c.entries } };
 
     ghost invariant = { λ c. (length c.kinds.items < 2 ^ 32) × (length c.devices.items < 2 ^ 32)

@@ -6,9 +6,9 @@ ghost use Rattle.mt_elements.specs.Classes.{plain, counter_of, queue_of, paint_o
 
 use crate::Kind;
 use crate::argument::{end, is_keyword, is_number, mac};
-use mt_click::Text;
 use mt_pattern::address::address;
 use mt_pattern::number::number_up_to;
+use mt_syntax::Text;
 
 /// The EtherType of ARP, which no header that is put in front may have.
 const ARP: u64 = 0x0806;

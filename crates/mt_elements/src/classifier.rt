@@ -5,7 +5,7 @@ ghost use Rattle.mt_elements.specs.Patterns.{each, clause_of, is_operation, is_a
 
 use crate::argument::hex_number;
 use crate::{Clause, Patterns};
-use mt_click::Text;
+use mt_syntax::Text;
 use std::alloc::{AllocError, Global};
 
 /// A clause: `0/` and twelve hexadecimal digits, `6/` and twelve, `12/` and four, or `20/` and four.
@@ -62,7 +62,7 @@ fn may_stand(clauses: &[Clause]) -> bool
 }
 
 /// The parts of an argument between single spaces.
-fn words(alloc: Global, argument: &[u8]) -> Result<Vec<&[u8]>, AllocError>
+pub(crate) fn words(alloc: Global, argument: &[u8]) -> Result<Vec<&[u8]>, AllocError>
     ensures { IfOk result (λ words. map (λ x. x.now) words.items ≡ words_of argument.now) }
 {
     argument.split(|byte| *byte == b' ').collect(alloc)

@@ -1,6 +1,8 @@
 //! What an element is, with its arguments read.
 ghost use Rattle.std.specs.Prelude.{◌≡◌, ◌<◌, ◌^◌, length, map, slice_get, Some};
 
+use crate::hop::Hops;
+use crate::rule::{IPPatterns, Rules};
 use std::marker::Model;
 
 /// A clause of a `Classifier` pattern. It holds where that field of the frame has that value.
@@ -110,4 +112,12 @@ pub enum Kind {
     GetIPAddress,
     /// Swaps the two ends: the addresses, and the ports where they are visible.
     IPMirror,
+    /// Does with a packet what the first rule says whose pattern holds, and drops it where none does.
+    IPFilter(Rules),
+    /// Sends a packet to the output with the number of the first pattern that holds, and drops it where
+    /// none does.
+    IPClassifier(IPPatterns),
+    /// Sends a packet to the output of the longest prefix that its annotation is in, with the gateway as
+    /// its annotation where there is one, and drops it where no prefix has it.
+    Route(Hops),
 }

@@ -1,6 +1,7 @@
 //! What holds of every text that is read, and which texts are.
 ghost use Rattle.mt_elements.specs.Promises.{SmallIsAccepted};
 ghost use Rattle.mt_elements.specs.Spelling.{StraightIsRead, ClassifiedIsRead};
+ghost use Rattle.mt_elements.specs.Written.{RulesAreSpelled, HopsAreSpelled};
 
 /// The chain of a text is accepted: packets arrive on a device, each element takes the layers at which it
 /// is reached, and each of its outputs leads to a later element or is one that may lead nowhere.
@@ -17,4 +18,15 @@ pub fn straight_is_read()
 /// and any white space.
 pub fn classified_is_read()
     ensures { ClassifiedIsRead }
+{}
+
+/// An argument of an `IPFilter` is read as a rule exactly where it is an action, a space and a pattern.
+pub fn rules_are_spelled()
+    ensures { RulesAreSpelled }
+{}
+
+/// An argument of a route table is read as a line exactly where it is a prefix, perhaps a gateway, and an
+/// output, with a space between two of them.
+pub fn hops_are_spelled()
+    ensures { HopsAreSpelled }
 {}

@@ -52,7 +52,10 @@ pub fn takes(kind: &Kind, layer: Layer) -> bool
         | Kind::SetIPDSCP(_)
         | Kind::StoreIPAddress(_, _)
         | Kind::GetIPAddress
-        | Kind::IPMirror => is_ip(layer),
+        | Kind::IPMirror
+        | Kind::IPFilter(_)
+        | Kind::IPClassifier(_)
+        | Kind::Route(_) => is_ip(layer),
     }
 }
 

@@ -8,11 +8,16 @@ mod class;
 mod classifier;
 mod comment;
 mod devices;
+mod filter;
+mod hop;
 mod kind;
+mod kinds;
 mod laws;
 mod layers;
 mod line;
+mod lookup;
 mod reading;
+mod rule;
 mod shape;
 #[cfg(test)]
 mod tests;
@@ -22,8 +27,13 @@ mod word;
 pub use chain::Chain;
 pub use class::stateless_kind;
 pub use classifier::patterns_of;
+pub use hop::{Hop, Hops};
 pub use kind::{Clause, End, Kind, Patterns};
-pub use laws::{classified_is_read, small_is_accepted, straight_is_read};
+pub use kinds::kind_of;
+pub use laws::{
+    classified_is_read, hops_are_spelled, rules_are_spelled, small_is_accepted, straight_is_read,
+};
 pub use layers::{layer_behind, takes};
+pub use rule::{FilterAction, IPPatterns, Rule, Rules};
 pub use shape::small;
 pub use text::Text;

@@ -9,8 +9,8 @@ use crate::layers::line_fits;
 use crate::reading::uses;
 use crate::word::{arguments_of, device_of, text_of};
 use crate::{Chain, Kind, Text, stateless_kind};
-use mt_click::{Token, Use};
 use mt_packet::Layer;
+use mt_syntax::{Token, Use};
 use std::alloc::{AllocError, Global};
 
 /// The greatest number of elements of a chain.

@@ -3,7 +3,7 @@
 ghost use Rattle.std.specs.Prelude.{◌≡◌, ◌≤◌, length, IfOk, IfSome, option_map};
 ghost use Rattle.mt_elements.specs.Reading.{word, is_sign, sign_at, is_end, name_at, arguments_at, use_at, uses_from, digit_at, branch_at, entry_at, declared_at, closed_at, branching_in};
 
-use mt_click::{Kind, Token, Use, Word};
+use mt_syntax::{Kind, Token, Use, Word};
 use std::alloc::{AllocError, Global};
 
 /// The signs that stand in the two shapes.

@@ -11,7 +11,7 @@ use crate::Chain;
 use crate::branching::read_classified;
 use crate::comment::has_comment;
 use crate::line::read_straight;
-use mt_click::{Token, tokens_of};
+use mt_syntax::{Token, tokens_of};
 use std::alloc::{AllocError, Global};
 
 /// The chain that a text stands for, None where it has neither of the two shapes.

@@ -4,7 +4,7 @@ ghost use Rattle.mt_elements.specs.Shape.{text_of, within, inner_of, arguments_o
 
 use crate::Text;
 use crate::argument::is_identifier;
-use mt_click::{Use, Word};
+use mt_syntax::{Use, Word};
 use std::alloc::{AllocError, Global};
 
 /// The bytes of a word.
@@ -41,10 +41,10 @@ pub(crate) fn arguments_of(
     alloc: Global,
     text: &[u8],
     made: &Use,
-) -> Result<Vec<mt_click::Text>, AllocError>
+) -> Result<Vec<mt_syntax::Text>, AllocError>
     ensures { IfOk result (λ v. v.items ≡ arguments_of text.now made.now) }
 {
-    mt_click::arguments_of(alloc, inner_of(text, &made.arguments))
+    mt_syntax::arguments_of(alloc, inner_of(text, &made.arguments))
 }
 
 /// Whether a use is one of that class.
@@ -55,7 +55,7 @@ pub(crate) fn is_class(text: &[u8], made: &Use, class: &[u8]) -> bool
 }
 
 #[tactic(auto, unfolding(crate::specs::Shape::device_named))]
-fn device_named(alloc: Global, arguments: &[mt_click::Text]) -> Result<Option<Text>, AllocError>
+fn device_named(alloc: Global, arguments: &[mt_syntax::Text]) -> Result<Option<Text>, AllocError>
     ensures { IfOk result (λ device. device ≡ device_named arguments.now) }
 {
     match arguments {

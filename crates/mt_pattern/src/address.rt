@@ -7,7 +7,7 @@ use crate::number::{decimal, number_up_to};
 use mt_packet::Span;
 
 /// The first place of a byte.
-fn place_of(byte: u8, word: &[u8]) -> Option<usize>
+pub fn place_of(byte: u8, word: &[u8]) -> Option<usize>
     ensures place { result ≡ place_of byte word.now }
     ensures within { IfSome result (λ n. n < length word.now) }
 {
@@ -16,7 +16,7 @@ fn place_of(byte: u8, word: &[u8]) -> Option<usize>
 
 /// Decimal digits that stand for at most `greatest`.
 #[tactic(auto, unfolding(crate::specs::Number::decimal_up_to))]
-fn decimal_up_to(greatest: u64, word: &[u8]) -> Option<u64>
+pub fn decimal_up_to(greatest: u64, word: &[u8]) -> Option<u64>
     ensures value { result ≡ decimal_up_to greatest word.now }
     ensures range { IfSome result (λ n. n ≤ greatest) }
 {

@@ -1,0 +1,5 @@
+use Rattle.mt_elements.proofs.Written.{rule_spelled}
+use Rattle.mt_elements.proofs.laws.rules_are_spelled.Goals as goal
+
+pub returns : goal.returns
+returns c = rule_spelled

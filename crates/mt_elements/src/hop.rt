@@ -1,0 +1,48 @@
+//! The lines of a route table.
+ghost use Rattle.std.specs.Prelude.{◌≡◌};
+
+use std::marker::Model;
+
+/// A line of a route table. Addresses are in network order.
+#[derive(Clone, Copy, Debug, PartialEq, Eq)]
+pub struct Hop {
+    /// An address of the prefix.
+    pub address: u32,
+    /// How many high bits of the address the prefix has, 0 to 32; the others do not count.
+    pub length: u8,
+    /// The next address on the way, where it is not the packet's own.
+    pub gateway: Option<u32>,
+    /// The output.
+    pub out: u32,
+}
+
+/// The lines of a route table in their order. A contract sees the list of them.
+#[derive(Drop)]
+pub struct Hops {
+    list: Vec<Hop>,
+}
+
+impl Model for Hops {
+    ghost use Rattle.std.specs.Prelude.{List};
+    ghost use Rattle.mt_elements.specs.declared.hop.Hop.{Hop};
+
+    ghost Value = { List Hop };
+
+    ghost view = { λ h. h.list.items };
+}
+
+impl Hops {
+    /// These lines.
+    pub fn new(list: Vec<Hop>) -> Hops
+        ensures { result ≡ list.items }
+    {
+        Hops { list }
+    }
+
+    /// The lines, in their order.
+    pub fn as_slice(&self) -> &[Hop]
+        ensures { result.now ≡ self.now }
+    {
+        &self.list
+    }
+}

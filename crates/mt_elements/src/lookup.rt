@@ -1,0 +1,99 @@
+//! The arguments of a route table.
+ghost use Rattle.std.specs.Prelude.{◌≡◌, ◌<◌, ◌≤◌, length, map, IfOk, IfSome, option_map};
+ghost use Rattle.mt_pattern.specs.Number.{place_of};
+ghost use Rattle.mt_elements.specs.Patterns.{each};
+ghost use Rattle.mt_elements.specs.Routes.{net_at, net_of, hop_in, hop_of, hops_of};
+
+use crate::classifier::words;
+use crate::filter::GREATEST_OUT;
+use crate::hop::{Hop, Hops};
+use mt_pattern::address::{address, decimal_up_to, place_of};
+use mt_pattern::number::number_up_to;
+use mt_syntax::Text;
+use std::alloc::{AllocError, Global};
+
+/// A prefix, as an address and a length: an address, `/` and 0 to 32, or an address alone.
+#[tactic(auto, unfolding(crate::specs::Routes::net_at))]
+fn net(word: &[u8]) -> Option<(u64, u64)>
+    ensures value { result ≡ net_of word.now }
+    ensures address { IfSome result (λ n. n.0 < 4294967296) }
+    ensures size { IfSome result (λ n. n.1 ≤ 32) }
+{
+    match place_of(b'/', word) {
+        None => {
+            let address = address(word)?;
+            Some((address, 32))
+        }
+        Some(slash) => {
+            let address = address(&word[..slash])?;
+            let length = decimal_up_to(32, &word[slash + 1..])?;
+            Some((address, length))
+        }
+    }
+}
+
+/// A line of a route table by its parts: a prefix, perhaps a gateway, and an output.
+#[tactic(auto, unfolding(crate::specs::Routes::hop_in))]
+fn hop_in(words: &[&[u8]]) -> Option<Hop>
+    ensures { result ≡ hop_in (map (λ x. x.now) words.now) }
+{
+    match words {
+        [prefix, last] => {
+            let (address, length) = net(prefix)?;
+            let out = number_up_to(GREATEST_OUT, last)?;
+            Some(Hop {
+                address: address as u32,
+                length: length as u8,
+                gateway: None,
+                out: out as u32,
+            })
+        }
+        [prefix, second, last] => {
+            let (prefix, length) = net(prefix)?;
+            let gateway = address(second)?;
+            let out = number_up_to(GREATEST_OUT, last)?;
+            Some(Hop {
+                address: prefix as u32,
+                length: length as u8,
+                gateway: Some(gateway as u32),
+                out: out as u32,
+            })
+        }
+        _ => None,
+    }
+}
+
+/// A line of a route table.
+fn hop(alloc: Global, argument: &[u8]) -> Result<Option<Hop>, AllocError>
+    ensures { IfOk result (λ found. found ≡ hop_of argument.now) }
+{
+    let words = words(alloc, argument)?;
+    Ok(hop_in(&words))
+}
+
+fn each_hop(alloc: Global, arguments: &[Text]) -> Result<Option<Vec<Hop>>, AllocError>
+    ensures { IfOk result (λ found. option_map (λ v. v.items) found ≡ each hop_of arguments.now) }
+{
+    let mut hops = Vec::new(alloc);
+    for argument in arguments {
+        match hop(alloc, argument.bytes())? {
+            Some(found) => hops.push(found)?,
+            None => return Ok(None),
+        }
+    }
+    Ok(Some(hops))
+}
+
+/// The lines that a route table has by its arguments. None where an argument is no line, or there is none.
+#[tactic(auto, unfolding(crate::specs::Routes::hops_of))]
+pub(crate) fn hops_of(alloc: Global, arguments: &[Text]) -> Result<Option<Hops>, AllocError>
+    ensures { IfOk result (λ found. found ≡ hops_of arguments.now) }
+{
+    if arguments.is_empty() {
+        return Ok(None);
+    }
+    match each_hop(alloc, arguments)? {
+        Some(hops) => Ok(Some(Hops::new(hops))),
+        None => Ok(None),
+    }
+}
