@@ -1,0 +1,7 @@
+pub mod Bools
+pub mod Counts
+pub mod Each
+pub mod Iterated
+pub mod Members
+pub mod Pairs
+pub mod Positions
