@@ -1,5 +1,6 @@
 pub mod Bools
 pub mod Counts
+pub mod Cuts
 pub mod Each
 pub mod Iterated
 pub mod Members

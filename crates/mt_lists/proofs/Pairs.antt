@@ -1,5 +1,5 @@
 -- What holds of each two of a list.
-use Rattle.std.proofs.Common.{suc, List, [], ◌∷◌, ◌++◌, All, AllPairs, Contains, inl, inr, subst, arith}
+use Rattle.std.proofs.Common.{suc, List, [], ◌∷◌, ◌++◌, AllPairs, Contains, inl, inr, subst, arith}
 use Rattle.std.proofs.lemmas.List.Elements.{Contains-append_cases, Contains-append_left}
 use Rattle.std.proofs.lemmas.List.Kept.{AllPairs-cons}
 use Rattle.mt_lists.proofs.Members.{first_in, later_in, all_of}

@@ -1,1 +1,4 @@
 mod Digits
+mod Numerals
+mod Pairs
+mod Printed

@@ -1,7 +1,8 @@
 -- Numbers in words. A number is one to nine decimal digits, or `0x` and one to eight hexadecimal digits, either
 -- case; leading zeros are allowed.
-use Rattle.std.specs.Prelude.{ℕ, ◌+◌, ◌-◌, ◌*◌, Bool, ◌&&◌, ◌||◌, ◌==◌, nat_lt, nat_le, if◌then◌else◌, List, length, drop, slice_index, fold, Option, Some, None}
+use Rattle.std.specs.Prelude.{◌≡◌, ◌≤◌, ℕ, ◌+◌, ◌-◌, ◌*◌, Bool, ◌&&◌, ◌||◌, ◌==◌, nat_lt, nat_le, if◌then◌else◌, List, length, drop, slice_index, fold, Option, Some, None}
 use Rattle.std.specs.List.{list_all}
+use Rattle.std.specs.Str.Parse.{IsNumeral, digits_value}
 use Rattle.mt_lists.specs.Options.{◌>>=◌}
 use Rattle.mt_text.specs.Byte.{is_digit}
 
@@ -51,3 +52,9 @@ number_up_to greatest word = number_of word >>= λ n. (if nat_le n greatest then
 -- decimal digits that stand for at most the greatest number
 unfoldable pub decimal_up_to : ℕ → List ℕ → Option ℕ
 decimal_up_to greatest word = decimal_of word >>= λ n. (if nat_le n greatest then Some n else None)
+
+-- ---- what decimal digits say
+
+-- one to nine decimal digits that write this number
+abbrev pub IsDecimal : List ℕ → ℕ → Type 0
+IsDecimal word n = IsNumeral 10 word × (length word ≤ 9) × (digits_value 10 word ≡ n)

@@ -1,6 +1,7 @@
 //! Addresses in words.
 ghost use Rattle.std.specs.Prelude.{◌≡◌, ◌<◌, length, IfSome};
-ghost use Rattle.mt_text.specs.Address.{index_of, ipv4_address_of, is_colon, pairs_of, ethernet_address_of};
+ghost use Rattle.mt_lists.specs.Cuts.{index_of};
+ghost use Rattle.mt_text.specs.Address.{ipv4_address_of, is_colon, pairs_of, ethernet_address_of};
 
 use crate::number::{decimal_up_to, hexadecimal_of_length};
 

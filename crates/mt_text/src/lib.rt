@@ -5,6 +5,7 @@
 
 mod address;
 mod byte;
+pub mod laws;
 mod number;
 mod text;
 
@@ -12,3 +13,6 @@ pub use address::{ethernet_address, index_of, ipv4_address};
 pub use byte::{begins_name, goes_on_name, is_decimal, is_identifier, is_white_byte};
 pub use number::{decimal, decimal_up_to, hexadecimal_of_length, number_up_to};
 pub use text::{Text, Texts};
+
+#[cfg(test)]
+mod tests;
