@@ -1,5 +1,6 @@
 pub mod Readable
 pub mod Sums
+pub mod Words
 pub mod Ranges
 pub mod Puts
 pub mod Frames

@@ -1,9 +1,9 @@
 -- Each value of a frame's header is in its field's range.
-use Rattle.std.proofs.Common.{◌≡◌, ℕ, ◌+◌, ◌≤◌, List, drop, subst, sym, arith}
+use Rattle.std.proofs.Common.{◌≡◌, ◌∙◌, ap, ℕ, ◌+◌, ◌≤◌, List, drop, subst, sym, refl, arith}
 use Rattle.std.proofs.lemmas.Bool.Decides.{nat_tests}
-use Rattle.std.proofs.lemmas.List.{get_or-drop, get_or-take}
+use Rattle.std.proofs.lemmas.List.{get_or-drop}
 use Rattle.mt_packet.specs.Field.{two_bytes_at, four_bytes_at, six_bytes_at, eth_type_of, eth_dst_of, eth_src_of, arp_op_of}
-use Rattle.mt_packet.specs.Header.{field_of, number_of, greatest_of, InRanges, InVisibleRanges, AreBytes, fields_of, header_of, visible_of}
+use Rattle.mt_packet.specs.Header.{field_of, greatest_of, InRanges, InVisibleRanges, IsVisible, AreBytes, fields_of, visible_of, visible_field_of}
 use Rattle.mt_packet.specs.Ipv4.{header_length, proto_of, src_of, dst_of, dscp_of, ecn_of, sport_of, dport_of, icmp_type_of, ip_ok_of, ports_of, mf_of, frag_off_of, ttl_of, syn_of, ack_of, fin_of, rst_of}
 use Rattle.mt_packet.specs.declared.field.Field.{Field}
 use Rattle.mt_packet.specs.declared.field.Field.TheVariants.{Device, EthType, EthDst, EthSrc, ArpOp, Proto, Src, Dst, Dscp, Ecn, Sport, Dport, IcmpType, IpOk, Ports, Mf, FragOff, Ttl, Syn, Ack, Fin, Rst, Paint, Annotation}
@@ -141,20 +141,47 @@ pub fields_of-in_ranges : (device : ℕ) (frame datagram : List ℕ) (paint anno
 fields_of-in_ranges device frame datagram paint annotation d f g p a =
     record { in_range = each device frame datagram paint annotation d f g p a }
 
--- the header of a frame
-pub header_of-in_ranges : (device : ℕ) (frame : List ℕ) → device ≤ 4294967295 → AreBytes frame → InRanges (header_of device frame)
-unfolding header_of
-header_of-in_ranges device frame d f =
-    fields_of-in_ranges device frame (drop 14 frame) 0 0 d f (AreBytes-drop frame 14 f) (omega arith) (omega arith)
-
 -- equal lists are in ranges alike
 pub InRanges-along : (g h : List ℕ) → g ≡ h → InRanges h → InRanges g
 InRanges-along g h e r = let P : List ℕ → Type 0 = λ l. InRanges l in subst P (sym e) r
 
+-- a visible header has the values of its header
+pub visible-same : (header : List ℕ) (field : Field) → IsVisible field → visible_field_of (visible_of header) field ≡ field_of header field
+visible-same header Device seen = refl
+visible-same header EthType seen = refl
+visible-same header EthDst seen = refl
+visible-same header EthSrc seen = refl
+visible-same header ArpOp seen = refl
+visible-same header Proto seen = refl
+visible-same header Src seen = refl
+visible-same header Dst seen = refl
+visible-same header Dscp seen = refl
+visible-same header Ecn seen = refl
+visible-same header Sport seen = refl
+visible-same header Dport seen = refl
+visible-same header IcmpType seen = refl
+visible-same header IpOk seen = absurd (omega arith)
+visible-same header Ports seen = absurd (omega arith)
+visible-same header Mf seen = absurd (omega arith)
+visible-same header FragOff seen = absurd (omega arith)
+visible-same header Ttl seen = absurd (omega arith)
+visible-same header Syn seen = absurd (omega arith)
+visible-same header Ack seen = absurd (omega arith)
+visible-same header Fin seen = absurd (omega arith)
+visible-same header Rst seen = absurd (omega arith)
+visible-same header Paint seen = absurd (omega arith)
+visible-same header Annotation seen = absurd (omega arith)
+
 -- the visible part of a header is in its ranges
 pub visible-in_ranges : (header : List ℕ) → InRanges header → InVisibleRanges (visible_of header)
 visible-in_ranges header r =
-    record {
-      in_range =
-          λ field seen. let e = get_or-take 13 header (number_of field) 0 seen in rw e (r.in_range field);
-    }
+    record { in_range = λ field seen. let e = visible-same header field seen in rw e (r.in_range field) }
+
+-- values that are the visible part of a header
+pub copied-in_ranges : (values header : List ℕ) → values ≡ visible_of header → InRanges header → InVisibleRanges values
+copied-in_ranges values header e r =
+    let P : List ℕ → Type 0 = λ l. InVisibleRanges l in subst P (sym e) (visible-in_ranges header r)
+
+pub copied-same : (values header : List ℕ) → values ≡ visible_of header → (field : Field) → IsVisible field
+    → visible_field_of values field ≡ field_of header field
+copied-same values header e field seen = ap (λ l. visible_field_of l field) e ∙ visible-same header field seen

@@ -1,8 +1,9 @@
--- A header: 24 numbers by field number. Fields 0 to 12 are visible to the switch, fields 13 to 21 are
--- hidden, fields 22 and 23 belong to the packet on its way. The fields and their ranges follow RFC 791,
+-- A header: a number for each field, by field number. A switch sees some of the fields; paint and
+-- annotation belong to the packet on its way. The fields and their ranges follow RFC 791,
 -- RFC 768, RFC 9293 and the match fields of OpenFlow 1.3; the values where a field is absent, and an
 -- EtherType read at bytes 12 and 13 also where a VLAN tag stands, are this project's own.
-use Rattle.std.specs.Prelude.{ℕ, ◌<◌, ◌≤◌, List, [], ◌∷◌, take, drop, slice_index}
+use Rattle.std.specs.Prelude.{ℕ, ◌<◌, ◌≤◌, ◌==◌, Bool, List, [], ◌∷◌, drop, length, map, slice_index}
+use Rattle.std.specs.List.{position_or_len}
 use Rattle.mt_packet.specs.Field.{eth_type_of, eth_dst_of, eth_src_of, arp_op_of}
 use Rattle.mt_packet.specs.Ipv4.{proto_of, src_of, dst_of, dscp_of, ecn_of, sport_of, dport_of, icmp_type_of, ip_ok_of, ports_of, mf_of, frag_off_of, ttl_of, syn_of, ack_of, fin_of, rst_of}
 use Rattle.mt_packet.specs.declared.field.Field.{Field}
@@ -62,27 +63,49 @@ greatest_of Rst = 1
 greatest_of Paint = 255
 greatest_of Annotation = 4294967295
 
--- the switch sees the field
-abbrev pub IsVisible : Field → Type 0
-IsVisible field = number_of field < 13
-
 -- a header's value of a field
 abbrev pub field_of : List ℕ → Field → ℕ
 field_of header field = slice_index header (number_of field)
 
--- each of 24 values is in its field's range
+-- the fields that a switch sees, in the order in which a visible header has them: the match fields of
+-- OpenFlow 1.3 for a device, Ethernet, ARP and IPv4
+abbrev pub visible_fields : List Field
+visible_fields =
+    Device ∷ EthType ∷ EthDst ∷ EthSrc ∷ ArpOp ∷ Proto ∷ Src ∷ Dst ∷ Dscp ∷ Ecn ∷ Sport ∷ Dport ∷ IcmpType ∷ []
+
+-- two fields are one
+abbrev pub is_field : Field → Field → Bool
+is_field field other = number_of other == number_of field
+
+-- a field's index in a visible header; their number where the switch does not see it
+abbrev pub visible_index : Field → ℕ
+visible_index field = position_or_len (is_field field) visible_fields
+
+-- the switch sees the field
+abbrev pub IsVisible : Field → Type 0
+IsVisible field = visible_index field < length visible_fields
+
+-- the part of a header that a switch sees
+abbrev pub visible_of : List ℕ → List ℕ
+visible_of header = map (λ field. field_of header field) visible_fields
+
+-- a visible header's value of a field
+abbrev pub visible_field_of : List ℕ → Field → ℕ
+visible_field_of values field = slice_index values (visible_index field)
+
+-- each value is in its field's range
 pub record InRanges (header : List ℕ) : Type 0 where
   pub in_range : (field : Field) → field_of header field ≤ greatest_of field
 
--- each of 13 values is in its field's range
-pub record InVisibleRanges (header : List ℕ) : Type 0 where
-  pub in_range : (field : Field) → IsVisible field → field_of header field ≤ greatest_of field
+-- each value of a visible header is in its field's range
+pub record InVisibleRanges (values : List ℕ) : Type 0 where
+  pub in_range : (field : Field) → IsVisible field → visible_field_of values field ≤ greatest_of field
 
 -- each item is a byte
 abbrev pub AreBytes : List ℕ → Type 0
 AreBytes bytes = (place : ℕ) → slice_index bytes place < 256
 
--- the 24 fields in order, of a device, the bytes in which the Ethernet header stands, the data behind
+-- the fields in order, of a device, the bytes in which the Ethernet header stands, the data behind
 -- it, a paint and an annotation
 abbrev pub fields_of : ℕ → List ℕ → List ℕ → ℕ → ℕ → List ℕ
 fields_of device frame datagram paint annotation =
@@ -96,7 +119,3 @@ fields_of device frame datagram paint annotation =
 -- the header of a frame that arrives on a device: the data are what follows the first 14 bytes
 unfoldable pub header_of : ℕ → List ℕ → List ℕ
 header_of device frame = fields_of device frame (drop 14 frame) 0 0
-
--- the part of a header that the switch sees: its first 13 numbers
-abbrev pub visible_of : List ℕ → List ℕ
-visible_of header = take 13 header

@@ -80,13 +80,13 @@ address_bytes address = put_six (0 ∷ 0 ∷ 0 ∷ 0 ∷ 0 ∷ 0 ∷ []) 0 addre
 
 -- an Ethernet header (IEEE 802.3): destination, source, EtherType
 abbrev pub ethernet_header : ℕ → ℕ → ℕ → List ℕ
-ethernet_header kind src dst =
-    address_bytes dst ++ address_bytes src ++ put_two (0 ∷ 0 ∷ []) 0 kind
+ethernet_header ether_type src dst =
+    address_bytes dst ++ address_bytes src ++ put_two (0 ∷ 0 ∷ []) 0 ether_type
 
 -- the packet with an Ethernet header in front
 abbrev pub encapsulated : PacketState → ℕ → ℕ → ℕ → PacketState
-encapsulated packet kind src dst =
-    record packet { bytes = ethernet_header kind src dst ++ packet.bytes; layer = Framed }
+encapsulated packet ether_type src dst =
+    record packet { bytes = ethernet_header ether_type src dst ++ packet.bytes; layer = Framed }
 
 -- its data are a valid IPv4 packet, as after `check_ip` has told true
 abbrev pub IsChecked : PacketState → Type 0

@@ -17,11 +17,11 @@ const ARP: u64 = 0x0806;
 pub fn eth_type(frame: &Frame) -> u64
     ensures { result ≡ eth_type_of frame.now }
 {
-    kind(frame.bytes())
+    ether_type(frame.bytes())
 }
 
 /// The EtherType of the bytes of a frame.
-pub(crate) fn kind(bytes: &[u8]) -> u64
+pub(crate) fn ether_type(bytes: &[u8]) -> u64
     ensures { result ≡ eth_type_of bytes.now }
 {
     if bytes.len() < HEADER {
@@ -60,7 +60,7 @@ pub(crate) fn arp_operation(bytes: &[u8]) -> u64
     if bytes.len() < 22 {
         return 65_536;
     }
-    if kind(bytes) == ARP {
+    if ether_type(bytes) == ARP {
         u64::from(two_bytes(bytes, 20))
     } else {
         65_536

@@ -1,12 +1,30 @@
 //! The fields of a header.
 ghost use Rattle.std.specs.Prelude.{◌≡◌, ◌<◌, ◌↔◌, IsTrue};
-ghost use Rattle.mt_packet.specs.Header.{number_of, greatest_of, IsVisible};
+ghost use Rattle.mt_packet.specs.Header.{number_of, greatest_of, is_field, visible_index, IsVisible};
+ghost use Rattle.std.specs.List.{position_or_len};
 
 /// The number of fields of a header.
 pub const HEADER_FIELDS: usize = 24;
 
-/// The number of fields that a switch sees: the first ones.
+/// The number of fields that a switch sees.
 pub const VISIBLE_FIELDS: usize = 13;
+
+/// The fields that a switch sees, in the order in which a visible header has them.
+pub(crate) const VISIBLE: [Field; VISIBLE_FIELDS] = [
+    Field::Device,
+    Field::EthType,
+    Field::EthDst,
+    Field::EthSrc,
+    Field::ArpOp,
+    Field::Proto,
+    Field::Src,
+    Field::Dst,
+    Field::Dscp,
+    Field::Ecn,
+    Field::Sport,
+    Field::Dport,
+    Field::IcmpType,
+];
 
 /// A field of a header, in the order of their numbers. Addresses and ports are numbers in network
 /// order. Where a frame does not have a field, the field has the value that is named last.
@@ -63,10 +81,10 @@ pub enum Field {
 }
 
 impl Field {
-    /// The field's number, its place in a header.
+    /// The field's number, its index in a header.
     pub fn number(self) -> usize
         ensures number { result ≡ number_of self }
-        ensures below { result < 24 }
+        ensures below { result < HEADER_FIELDS }
     {
         match self {
             Field::Device => 0,
@@ -123,6 +141,25 @@ impl Field {
     pub fn is_visible(self) -> bool
         ensures { IsTrue result ↔ IsVisible self }
     {
-        self.number() < VISIBLE_FIELDS
+        self.visible_index() < VISIBLE_FIELDS
     }
+
+    /// The field's index in a visible header, and `VISIBLE_FIELDS` where a switch does not see it.
+    pub(crate) fn visible_index(self) -> usize
+        ensures { result ≡ visible_index self }
+    {
+        index_of(self, &VISIBLE)
+    }
+}
+
+/// The first index at which a field stands among fields, or their number.
+fn index_of(field: Field, fields: &[Field]) -> usize
+    ensures { result ≡ position_or_len (is_field field) fields.now }
+{
+    for (index, other) in fields.iter().enumerate() {
+        if other.number() == field.number() {
+            return index;
+        }
+    }
+    fields.len()
 }

@@ -1,8 +1,8 @@
 //! The flow of a packet.
 
 /// A protocol (6 for TCP, 17 for UDP) and two ends: the source address and port, the destination
-/// address and port.
-#[derive(Clone, Copy, Debug, PartialEq, Eq)]
+/// address and port, numbers in network order. Flows are ordered by these fields, one after the other.
+#[derive(Clone, Copy, Debug, PartialEq, Eq, PartialOrd, Ord)]
 pub struct Flow {
     pub proto: u8,
     pub sa: u32,

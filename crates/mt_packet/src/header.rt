@@ -1,6 +1,6 @@
 //! The header of a frame.
 ghost use Rattle.std.specs.Prelude.{◌≡◌, ◌≤◌, length};
-ghost use Rattle.mt_packet.specs.Header.{header_of, field_of, greatest_of, InRanges};
+ghost use Rattle.mt_packet.specs.Header.{header_of, fields_of, field_of, greatest_of, InRanges};
 
 use crate::datagram::Datagram;
 use crate::ethernet;
@@ -9,7 +9,7 @@ use crate::frame::Frame;
 use std::marker::Model;
 
 /// A header: a value for each field, each in its field's range, whether or not some frame has it. A
-/// contract sees the list of the 24 numbers by field number.
+/// contract sees the list of the numbers by field number.
 #[derive(Drop)]
 pub struct Header {
     values: [u64; HEADER_FIELDS],
@@ -35,22 +35,38 @@ impl Header {
         Header { values }
     }
 
-    /// The header of a frame that arrives on a device: its paint and its annotation are 0. Each byte is
-    /// read at its own place, and no memory is taken.
+    /// The header of a frame that arrives on a device: its paint and its annotation are 0. Its bytes are
+    /// looked at once.
+    #[tactic(auto, unfolding(crate::specs::Header::header_of))]
     pub fn of(device: u32, frame: &Frame) -> Header
         ensures header { result ≡ header_of device frame.now }
         ensures ranges { InRanges result }
     {
         let bytes = frame.bytes();
+        Header::read(device, bytes, ethernet::behind_header(bytes), 0, 0)
+    }
+
+    /// The fields of the bytes in which the Ethernet header stands, of the data behind it, of a paint and
+    /// of an annotation.
+    pub(crate) fn read(
+        device: u32,
+        frame: &[u8],
+        datagram: &[u8],
+        paint: u8,
+        annotation: u32,
+    ) -> Header
+        ensures header { result ≡ fields_of device frame.now datagram.now paint annotation }
+        ensures ranges { InRanges result }
+    {
         Header {
-            values: read(device, bytes),
+            values: values_of(device, frame, datagram, paint, annotation),
         }
     }
 
     /// All values, by field number.
     pub fn values(&self) -> &[u64; HEADER_FIELDS]
         ensures values { result.now ≡ self.now }
-        ensures whole { length self.now ≡ 24 }
+        ensures whole { length self.now ≡ HEADER_FIELDS }
         ensures ranges { InRanges self.now }
     {
         &self.values
@@ -65,18 +81,24 @@ impl Header {
     }
 }
 
-/// The fields of the bytes of a frame, in their order.
-fn read(device: u32, bytes: &[u8]) -> [u64; HEADER_FIELDS]
-    ensures header { result ≡ header_of device bytes.now }
+/// The values of a header, by field number.
+fn values_of(
+    device: u32,
+    frame: &[u8],
+    datagram: &[u8],
+    paint: u8,
+    annotation: u32,
+) -> [u64; HEADER_FIELDS]
+    ensures header { result ≡ fields_of device frame.now datagram.now paint annotation }
     ensures ranges { InRanges result }
 {
-    let ip = Datagram::new(ethernet::behind_header(bytes));
+    let ip = Datagram::new(datagram);
     [
         u64::from(device),
-        ethernet::kind(bytes),
-        ethernet::destination(bytes),
-        ethernet::source(bytes),
-        ethernet::arp_operation(bytes),
+        ethernet::ether_type(frame),
+        ethernet::destination(frame),
+        ethernet::source(frame),
+        ethernet::arp_operation(frame),
         u64::from(ip.protocol()),
         u64::from(ip.source()),
         u64::from(ip.destination()),
@@ -94,7 +116,7 @@ fn read(device: u32, bytes: &[u8]) -> [u64; HEADER_FIELDS]
         u64::from(ip.ack()),
         u64::from(ip.fin()),
         u64::from(ip.rst()),
-        0,
-        0,
+        u64::from(paint),
+        u64::from(annotation),
     ]
 }

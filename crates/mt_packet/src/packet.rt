@@ -1,7 +1,7 @@
 //! A packet on its way through a chain.
 ghost use Rattle.std.specs.Prelude.{◌≡◌, ◌+◌, ◌^◌, ◌<◌, ◌≤◌, ◌↔◌, ◌++◌, length, take, drop, slice_set, true, IsTrue, if◌then◌else◌};
 ghost use Rattle.mt_packet.specs.Flow.{packet_flow};
-ghost use Rattle.mt_packet.specs.Header.{field_of, fields_of, greatest_of};
+ghost use Rattle.mt_packet.specs.Header.{field_of, fields_of, greatest_of, InRanges};
 ghost use Rattle.mt_packet.specs.Ipv4.{IsValidIpv4, header_length, dst_of, has_ports};
 ghost use Rattle.mt_packet.specs.Packet.{PacketState, has_ethernet, frame_of, datagram_of, packet_header, header_after, arrived, stripped, encapsulated, ethernet_header, checked, checked_datagram, layer_checked, with_field, CanWrite, IsChecked, HasEthernet};
 ghost use Rattle.std.specs.Bool.{OnTrue};
@@ -15,6 +15,7 @@ use crate::ethernet;
 use crate::field::Field;
 use crate::flow::Flow;
 use crate::frame::{Frame, Stamped};
+use crate::header::Header;
 use crate::layer::Layer;
 use crate::writes::Writes;
 use std::marker::Model;
@@ -76,7 +77,7 @@ impl Packet {
     }
 
     /// Whether a whole Ethernet header stands in front.
-    pub fn has_ethernet(&self) -> bool
+    pub fn has_whole_ethernet(&self) -> bool
         ensures { IsTrue result ↔ HasEthernet self.now }
     {
         match self.layer {
@@ -91,6 +92,23 @@ impl Packet {
         ensures { result ≡ has_ports (datagram_of self.now) }
     {
         Datagram::new(ethernet::behind_header(&self.bytes)).has_ports()
+    }
+
+    /// The header, read at the present bytes in one walk, with the packet's paint and annotation. Where the
+    /// Ethernet header was taken away, the fields of Ethernet and ARP are absent, and those of IPv4 are read
+    /// from the first byte on.
+    pub fn header(&self) -> Header
+        ensures header { result ≡ packet_header self.now }
+        ensures ranges { InRanges result }
+    {
+        let datagram = ethernet::behind_header(&self.bytes);
+        Header::read(
+            self.device,
+            self.ethernet(),
+            datagram,
+            self.paint,
+            self.annotation,
+        )
     }
 
     /// A field, read at the present bytes. Where the Ethernet header was taken away, the fields of
@@ -160,14 +178,14 @@ impl Packet {
         true
     }
 
-    /// Puts an Ethernet header in front of a checked packet: the EtherType `kind` and the low 48 bits
-    /// of the source and the destination address.
-    pub fn encap(&mut self, kind: u16, src: u64, dst: u64)
+    /// Puts an Ethernet header in front of a checked packet: the EtherType and the low 48 bits of
+    /// the source and the destination address.
+    pub fn encap(&mut self, ether_type: u16, src: u64, dst: u64)
         requires { self.old.layer ≡ Layer.Ip }
-        ensures after { self.new ≡ encapsulated self.old kind src dst }
+        ensures after { self.new ≡ encapsulated self.old ether_type src dst }
         ensures same_datagram { datagram_of self.new ≡ datagram_of self.old }
     {
-        write_ethernet(&mut self.bytes, kind, src, dst);
+        write_ethernet(&mut self.bytes, ether_type, src, dst);
         self.layer = Layer::Framed;
     }
 
@@ -268,7 +286,7 @@ fn read_at_place(
     let ip = Datagram::new(datagram);
     match field {
         Field::Device => u64::from(device),
-        Field::EthType => ethernet::kind(frame),
+        Field::EthType => ethernet::ether_type(frame),
         Field::EthDst => ethernet::destination(frame),
         Field::EthSrc => ethernet::source(frame),
         Field::ArpOp => ethernet::arp_operation(frame),
@@ -296,13 +314,13 @@ fn read_at_place(
 
 /// Writes an Ethernet header over the first bytes.
 #[tactic(auto, using(crate::proofs::Frames::encapsulated_bytes))]
-fn write_ethernet(bytes: &mut [u8], kind: u16, src: u64, dst: u64)
+fn write_ethernet(bytes: &mut [u8], ether_type: u16, src: u64, dst: u64)
     requires { 14 ≤ length bytes.old }
-    ensures { bytes.new ≡ ethernet_header kind src dst ++ drop 14 bytes.old }
+    ensures { bytes.new ≡ ethernet_header ether_type src dst ++ drop 14 bytes.old }
 {
     write_six(bytes, 0, dst);
     write_six(bytes, 6, src);
-    write_two(bytes, 12, kind);
+    write_two(bytes, 12, ether_type);
 }
 
 /// The layer of a packet that has been found to be IPv4.

@@ -517,7 +517,7 @@ fn a_packet_on_its_way(rt: HostRuntime) {
     let text =
         "020000000002 020000000001 0800 45000020 00010000 4011468b 0a000005 c6336409 13880035 000cf310 61626364";
     let mut packet = arrived(frame(rt.alloc(), text).expect(&rt, "memory"), 2);
-    assert_eq!(rt; packet.has_ethernet(), true);
+    assert_eq!(rt; packet.has_whole_ethernet(), true);
     if !packet.strip() {
         return;
     }
