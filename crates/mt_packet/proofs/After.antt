@@ -4,7 +4,8 @@ use Rattle.std.proofs.Math.ListN.{get_or-append}
 use Rattle.std.proofs.lemmas.Bool.Decides.{nat_tests}
 use Rattle.std.proofs.lemmas.List.{get_or-drop, get_or-take, length-take, length-drop, length-set}
 use Rattle.mt_packet.proofs.Kept.{datagram_of-with, drop-put_two, drop-put_six}
-use Rattle.mt_packet.proofs.Reading.{SameEthernet, put_two-apart, put_four-apart, two-put, four-put-low, ttl-fields, dscp-fields, src-fields, dst-fields, sport-fields, dport-fields}
+use Rattle.mt_packet.proofs.Puts.{put_two-apart, put_four-apart, two-put}
+use Rattle.mt_packet.proofs.Reading.{SameEthernet, four-put-low, ttl-fields, dscp-fields, src-fields, dst-fields, sport-fields, dport-fields}
 use Rattle.mt_packet.proofs.Shape.{SameShape}
 use Rattle.mt_packet.proofs.Valid.{shape-address, shape-port, shape-ttl, shape-dscp}
 use Rattle.mt_packet.proofs.Views.{behind}

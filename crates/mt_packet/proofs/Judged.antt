@@ -4,8 +4,8 @@ use Rattle.std.proofs.lemmas.Bool.Decides.{nat_tests}
 use Rattle.std.proofs.lemmas.List.{get_or-take, get_or-drop, length-take, length-drop}
 use Rattle.mt_packet.proofs.After.{front, back}
 use Rattle.mt_packet.proofs.Kept.{datagram_of-checked, checked-layer, cut-message, cut-ports, header_zero-shape, tcp_zero-shape, zeros-shape}
-use Rattle.mt_packet.proofs.Puts.{ports-cases}
-use Rattle.mt_packet.proofs.Reading.{SameEthernet, SameRest, rest-from, put_two-apart, place-beyond, flags-low, flags-high, same-src, same-dst, same-dscp, same-ecn, same-ttl, same-sport, same-dport, same-icmp, same-ip_ok, same-two, valid-readable}
+use Rattle.mt_packet.proofs.Puts.{ports-cases, put_two-apart}
+use Rattle.mt_packet.proofs.Reading.{SameEthernet, SameRest, rest-from, place-beyond, flags-low, flags-high, same-src, same-dst, same-dscp, same-ecn, same-ttl, same-sport, same-dport, same-icmp, same-ip_ok, same-two, valid-readable}
 use Rattle.mt_packet.proofs.Shape.{SameShape}
 use Rattle.mt_packet.proofs.Valid.{choose, valid-cut, valid-header_zero, valid-tcp_zero}
 use Rattle.mt_packet.specs.Field.{eth_dst_of, eth_src_of, arp_op_of}

@@ -7,6 +7,7 @@ pub mod Frames
 pub mod Views
 pub mod Shape
 pub mod Right
+pub mod Difference
 pub mod Valid
 pub mod Kept
 pub mod Reading

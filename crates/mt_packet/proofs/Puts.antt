@@ -1,12 +1,34 @@
 -- Numbers put into bytes.
-use Rattle.std.proofs.Common.{◌≡◌, ◌≢◌, ◌∙◌, ap, refl, ℕ, ◌+◌, ◌-◌, ◌/◌, ◌%◌, ◌<◌, ◌≤◌, List, length, set, take, sum, Bool, true, false, arith, ◌||◌, ◌⊎◌, inl, inr}
+use Rattle.std.proofs.Common.{◌≡◌, ◌≢◌, ◌∙◌, ap, get_or, refl, ℕ, ◌+◌, ◌-◌, ◌/◌, ◌%◌, ◌<◌, ◌≤◌, List, length, set, take, sum, Bool, true, false, arith, ◌||◌, ◌⊎◌, inl, inr}
 use Rattle.std.proofs.lemmas.Bool.Decides.{nat_tests}
 use Rattle.std.proofs.lemmas.Grind.{common_steps}
-use Rattle.std.proofs.lemmas.List.{set-set, set_comm}
+use Rattle.std.proofs.lemmas.List.{get_or-set_other, get_or-set_same, length-set, set-set, set_comm}
 use Rattle.mt_packet.proofs.Readable.{tcp_long, udp_long}
 use Rattle.mt_packet.specs.Checksum.{words_of, ones_complement, negative_of}
+use Rattle.mt_packet.specs.Field.{two_bytes_at}
 use Rattle.mt_packet.specs.Ipv4.{header_length, has_ports, has_message, proto_of}
-use Rattle.mt_packet.specs.Write.{put_two, checksum_place, with_header_checksum}
+use Rattle.mt_packet.specs.Write.{put_two, put_four, checksum_place, with_header_checksum}
+
+-- a byte at which a write does not stand
+pub put_two-apart : (d : List ℕ) (p v i : ℕ) → i ≢ p → i ≢ p + 1 → get_or (put_two d p v) i 0 ≡ get_or d i 0
+put_two-apart d p v i a b =
+    get_or-set_other (set d p (v / 256 % 256)) (p + 1) i (v % 256) 0 b ∙ get_or-set_other d p i (v / 256 % 256) 0 a
+
+pub put_four-apart : (d : List ℕ) (p v i : ℕ) → i ≢ p → i ≢ p + 1 → i ≢ p + 2 → i ≢ p + 3 → get_or (put_four d p v) i 0 ≡ get_or d i 0
+put_four-apart d p v i a b c e =
+    let e' : i ≢ p + 2 + 1 = omega arith in
+    put_two-apart (put_two d p (v / 65536)) (p + 2) v i c e' ∙ put_two-apart d p (v / 65536) i a b
+
+-- a number that is put into bytes is read there
+pub two-put : (d : List ℕ) (p v : ℕ) → p + 1 < length d → two_bytes_at (put_two d p v) p ≡ v % 65536
+two-put d p v within =
+    let here : p < length d = omega arith in
+    let a : get_or (set d p (v / 256 % 256)) p 0 ≡ v / 256 % 256 = get_or-set_same d p (v / 256 % 256) 0 here in
+    let n = length-set d p (v / 256 % 256) in
+    let next : p + 1 < length (set d p (v / 256 % 256)) = omega arith in
+    let b : get_or (put_two d p v) (p + 1) 0 ≡ v % 256 = get_or-set_same (set d p (v / 256 % 256)) (p + 1) (v % 256) 0 next in
+    let c : get_or (put_two d p v) p 0 ≡ get_or (set d p (v / 256 % 256)) p 0 = get_or-set_other (set d p (v / 256 % 256)) (p + 1) p (v % 256) 0 (omega arith) in
+    omega arith
 
 -- the later of two writes stays
 pub put_two-again : (l : List ℕ) (p u v : ℕ) → put_two (put_two l p u) p v ≡ put_two l p v

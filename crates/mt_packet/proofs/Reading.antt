@@ -4,7 +4,7 @@ use Rattle.std.proofs.Common.{◌≡◌, ◌≢◌, ◌∙◌, sym, ap, refl, �
 use Rattle.std.proofs.lemmas.Bool.Decides.{nat_tests}
 use Rattle.std.proofs.lemmas.List.{get_or-set_other, get_or-set_same, length-set}
 use Rattle.mt_packet.proofs.Frames.{valid-tested}
-use Rattle.mt_packet.proofs.Puts.{message_proto, ports-cases}
+use Rattle.mt_packet.proofs.Puts.{message_proto, ports-cases, put_two-apart, put_four-apart, two-put}
 use Rattle.mt_packet.proofs.Readable.{ports_long}
 use Rattle.mt_packet.proofs.Shape.{SameShape, SameShape-trans, SameShape-put_two, SameShape-put_four, SameShape-header_checksum, same-header_length, same-readable, same-proto, same-frag_off, same-mf, same-message, same-ports, same-place}
 use Rattle.mt_packet.proofs.Valid.{choose, valid-address, valid-port, valid-ttl, valid-dscp, shape-address, shape-port, shape-ttl, shape-dscp}
@@ -12,16 +12,6 @@ use Rattle.mt_packet.specs.Field.{two_bytes_at, four_bytes_at, eth_type_of, eth_
 use Rattle.mt_packet.specs.Header.{fields_of}
 use Rattle.mt_packet.specs.Ipv4.{IsValidIpv4, header_length, is_readable, proto_of, src_of, dst_of, dscp_of, ecn_of, mf_of, frag_off_of, ttl_of, has_message, has_ports, ports_of, sport_of, dport_of, icmp_type_of, tcp_flags_of, syn_of, ack_of, fin_of, rst_of, ip_ok_of}
 use Rattle.mt_packet.specs.Write.{put_two, put_four, checksum_place, with_header_checksum, with_transport_checksum, with_address, with_port, with_dscp, with_ttl}
-
--- a byte at which a write does not stand
-pub put_two-apart : (d : List ℕ) (p v i : ℕ) → i ≢ p → i ≢ p + 1 → get_or (put_two d p v) i 0 ≡ get_or d i 0
-put_two-apart d p v i a b =
-    get_or-set_other (set d p (v / 256 % 256)) (p + 1) i (v % 256) 0 b ∙ get_or-set_other d p i (v / 256 % 256) 0 a
-
-pub put_four-apart : (d : List ℕ) (p v i : ℕ) → i ≢ p → i ≢ p + 1 → i ≢ p + 2 → i ≢ p + 3 → get_or (put_four d p v) i 0 ≡ get_or d i 0
-put_four-apart d p v i a b c e =
-    let e' : i ≢ p + 2 + 1 = omega arith in
-    put_two-apart (put_two d p (v / 65536)) (p + 2) v i c e' ∙ put_two-apart d p (v / 65536) i a b
 
 header_checksum-apart : (d : List ℕ) (i : ℕ) → i ≢ 10 → i ≢ 11 → get_or (with_header_checksum d) i 0 ≡ get_or d i 0
 unfolding with_header_checksum
@@ -174,17 +164,7 @@ flags-low d = elim (place-cases d) [ inl e ↦ omega arith | inr e ↦ omega ari
 pub flags-high : (d : List ℕ) → header_length d + 13 ≢ checksum_place d + 1
 flags-high d = elim (place-cases d) [ inl e ↦ omega arith | inr e ↦ omega arith ]
 
--- a number that is put into bytes is read there
-pub two-put : (d : List ℕ) (p v : ℕ) → p + 1 < length d → two_bytes_at (put_two d p v) p ≡ v % 65536
-two-put d p v within =
-    let here : p < length d = omega arith in
-    let a : get_or (set d p (v / 256 % 256)) p 0 ≡ v / 256 % 256 = get_or-set_same d p (v / 256 % 256) 0 here in
-    let n = length-set d p (v / 256 % 256) in
-    let next : p + 1 < length (set d p (v / 256 % 256)) = omega arith in
-    let b : get_or (put_two d p v) (p + 1) 0 ≡ v % 256 = get_or-set_same (set d p (v / 256 % 256)) (p + 1) (v % 256) 0 next in
-    let c : get_or (put_two d p v) p 0 ≡ get_or (set d p (v / 256 % 256)) p 0 = get_or-set_other (set d p (v / 256 % 256)) (p + 1) p (v % 256) 0 (omega arith) in
-    omega arith
-
+-- a number that is put into four bytes
 pub four-put-low : (d : List ℕ) (p v : ℕ) → p + 3 < length d → four_bytes_at (put_four d p v) p ≡ v % 4294967296
 four-put-low d p v within =
     let n = same_length d p (v / 65536) in

@@ -6,7 +6,7 @@ use Rattle.mt_packet.proofs.Sums.{sum-cons}
 use Rattle.mt_packet.specs.Checksum.{words_of}
 use Rattle.mt_packet.specs.Field.{two_bytes_at}
 use Rattle.mt_packet.specs.Ipv4.{header_length}
-use Rattle.mt_packet.specs.Write.{put_two}
+use Rattle.mt_packet.specs.Write.{put_two, put_four}
 
 -- the sum of bytes begins with their first word
 sum-word : (bytes : List ℕ) → 2 ≤ length bytes → sum (words_of bytes) ≡ two_bytes_at bytes 0 + sum (words_of (drop 2 bytes))
@@ -62,10 +62,7 @@ fixed_sum d =
     two_bytes_at d 0 + two_bytes_at d 2 + two_bytes_at d 4 + two_bytes_at d 6 + two_bytes_at d 8
     + two_bytes_at d 12 + two_bytes_at d 14 + two_bytes_at d 16 + two_bytes_at d 18
 
--- bytes of a header seen in the header alone
-record Seen (d e : List ℕ) : Type 0 where
-  at : (i : ℕ) → i < 20 → get_or e i 0 ≡ get_or d i 0
-
+-- the sum of a header by its words
 pub header-words : (d : List ℕ) → 20 ≤ header_length d → header_length d ≤ length d
     → sum (words_of (take (header_length d) d)) ≡ fixed_sum d + two_bytes_at d 10 + options_sum d
 header-words d least within =
@@ -94,3 +91,17 @@ header-words d least within =
     let a18 = get_or-take n d 18 0 (omega arith) in
     let a19 = get_or-take n d 19 0 (omega arith) in
     omega arith
+
+-- a write into the fixed part leaves the options
+pub options-set : (n : ℕ) (d : List ℕ) (i v : ℕ) → 20 ≤ n → i < 20 → drop 20 (take n (set d i v)) ≡ drop 20 (take n d)
+options-set n d i v least low =
+    let here : i < n = omega arith in
+    ap (drop 20) (take-set-lt n d i v here) ∙ drop-set-lt 20 (take n d) i v low
+
+pub options-put_two : (n : ℕ) (d : List ℕ) (p v : ℕ) → 20 ≤ n → p + 1 < 20 → drop 20 (take n (put_two d p v)) ≡ drop 20 (take n d)
+options-put_two n d p v least low =
+    options-set n (set d p (v / 256 % 256)) (p + 1) (v % 256) least low ∙ options-set n d p (v / 256 % 256) least (omega arith)
+
+pub options-put_four : (n : ℕ) (d : List ℕ) (p v : ℕ) → 20 ≤ n → p + 3 < 20 → drop 20 (take n (put_four d p v)) ≡ drop 20 (take n d)
+options-put_four n d p v least low =
+    options-put_two n (put_two d p (v / 65536)) (p + 2) v least (omega arith) ∙ options-put_two n d p (v / 65536) least (omega arith)

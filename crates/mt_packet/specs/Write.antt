@@ -7,11 +7,6 @@ use Rattle.mt_packet.specs.Ipv4.{header_length, has_ports, proto_of}
 use Rattle.mt_packet.specs.declared.field.Field.{Field}
 use Rattle.mt_packet.specs.declared.field.Field.TheVariants.{Src, Dst, Dscp, Sport, Dport, Ttl}
 
--- a whole header lies within the bytes
-pub record HasHeader (datagram : List ℕ) : Type 0 where
-  pub has_fixed_part : 20 ≤ length datagram
-  pub is_within : header_length datagram ≤ length datagram
-
 -- the bytes with a number in two of them from a place on, in network order
 abbrev pub put_two : List ℕ → ℕ → ℕ → List ℕ
 put_two bytes place value =

@@ -1,6 +1,6 @@
 //! The checksums of IPv4, TCP and UDP (RFC 1071, RFC 1624).
-ghost use Rattle.std.specs.Prelude.{◌≡◌, ◌+◌};
-ghost use Rattle.mt_packet.specs.Checksum.{words_of, ones_complement, ones_complement_sum, checksum_after_write, transport_after_write};
+ghost use Rattle.std.specs.Prelude.{◌≡◌, ◌+◌, ◌%◌, ◌≤◌};
+ghost use Rattle.mt_packet.specs.Checksum.{words_of, negative_of, ones_complement, ones_complement_sum, checksum_after_write, transport_after_write};
 
 /// The ones' complement sum of the 16-bit words of the bytes, in network order (RFC 1071). A last
 /// odd byte counts as the high byte of a word. The sum of a header with its checksum in place is
@@ -47,6 +47,15 @@ pub fn l4_delta(field: u16, old: &[u16], new: &[u16]) -> u16
         total = (total + 65_535 - u64::from(*word) % 65_535) % 65_535;
     }
     total as u16
+}
+
+/// The same for a header checksum, where at most two words have been replaced: by the sums of these words.
+pub(crate) fn header_delta(field: u16, old: u32, new: u32) -> u16
+    requires old_words { old ≤ 131070 }
+    requires new_words { new ≤ 131070 }
+    ensures { result ≡ (field + old + negative_of new) % 65535 }
+{
+    ((u32::from(field) + old + 131_070 - new) % 65_535) as u16
 }
 
 /// The transport checksum in which words have been replaced. In UDP a field of 0 means that there is

@@ -1,11 +1,11 @@
 //! A packet on its way through a chain.
-ghost use Rattle.std.specs.Prelude.{◌≡◌, ◌+◌, ◌^◌, ◌<◌, ◌≤◌, ◌↔◌, ◌++◌, length, take, drop, slice_set, true, IsTrue, if◌then◌else◌};
+ghost use Rattle.std.specs.Prelude.{◌≡◌, ◌⊎◌, ◌+◌, ◌^◌, ◌<◌, ◌≤◌, ◌↔◌, ◌++◌, length, take, drop, slice_set, true, IsTrue, if◌then◌else◌};
 ghost use Rattle.mt_packet.specs.Flow.{packet_flow};
 ghost use Rattle.mt_packet.specs.Header.{field_of, fields_of, greatest_of, InRanges};
 ghost use Rattle.mt_packet.specs.Ipv4.{IsValidIpv4, header_length, dst_of, has_ports};
 ghost use Rattle.mt_packet.specs.Packet.{PacketState, has_ethernet, frame_of, datagram_of, packet_header, header_after, arrived, stripped, encapsulated, ethernet_header, checked, checked_datagram, layer_checked, with_field, CanWrite, IsChecked, HasEthernet};
 ghost use Rattle.std.specs.Bool.{OnTrue};
-ghost use Rattle.mt_packet.specs.Write.{HasHeader, with_address, with_dscp, with_ttl, with_port, with_header_zero, with_tcp_zero};
+ghost use Rattle.mt_packet.specs.Write.{with_address, with_dscp, with_ttl, with_port, with_header_zero, with_tcp_zero};
 
 mod write;
 
@@ -348,9 +348,8 @@ fn trim(bytes: &mut Vec<u8>)
 
 /// Writes an address of the IPv4 header behind the Ethernet header.
 fn write_address(bytes: &mut [u8], place: usize, value: u32)
-    requires header { HasHeader (drop 14 bytes.old) }
-    requires low { 12 ≤ place }
-    requires high { place ≤ 16 }
+    requires valid { IsValidIpv4 (drop 14 bytes.old) }
+    requires address { (place ≡ 12) ⊎ (place ≡ 16) }
     ensures { bytes.new ≡ take 14 bytes.old ++ with_address (drop 14 bytes.old) place value }
 {
     write::address(&mut bytes[ethernet::HEADER..], place, value);
@@ -358,7 +357,7 @@ fn write_address(bytes: &mut [u8], place: usize, value: u32)
 
 /// Writes the code point of the IPv4 header behind the Ethernet header.
 fn write_code_point(bytes: &mut [u8], value: u8)
-    requires header { HasHeader (drop 14 bytes.old) }
+    requires valid { IsValidIpv4 (drop 14 bytes.old) }
     requires range { value ≤ 63 }
     ensures { bytes.new ≡ take 14 bytes.old ++ with_dscp (drop 14 bytes.old) value }
 {
@@ -367,7 +366,7 @@ fn write_code_point(bytes: &mut [u8], value: u8)
 
 /// Writes the time to live of the IPv4 header behind the Ethernet header.
 fn write_time_to_live(bytes: &mut [u8], value: u8)
-    requires { HasHeader (drop 14 bytes.old) }
+    requires { IsValidIpv4 (drop 14 bytes.old) }
     ensures { bytes.new ≡ take 14 bytes.old ++ with_ttl (drop 14 bytes.old) value }
 {
     write::time_to_live(&mut bytes[ethernet::HEADER..], value);

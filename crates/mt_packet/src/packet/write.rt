@@ -1,45 +1,54 @@
 //! Writing the fields of an IPv4 packet in place, with its checksums.
-ghost use Rattle.std.specs.Prelude.{◌≡◌, ◌+◌, ◌<◌, ◌≤◌, ◌++◌, length, take, drop, true};
-ghost use Rattle.mt_packet.specs.Ipv4.{header_length, has_ports};
-ghost use Rattle.mt_packet.specs.Write.{HasHeader, checksum_place, with_header_checksum, with_transport_checksum, with_address, with_port, with_dscp, with_ttl, with_header_zero, with_tcp_zero};
+ghost use Rattle.std.specs.Prelude.{◌≡◌, ◌⊎◌, ◌+◌, ◌%◌, ◌<◌, ◌≤◌, length, true};
+ghost use Rattle.mt_packet.specs.Checksum.{negative_of};
+ghost use Rattle.mt_packet.specs.Field.{two_bytes_at};
+ghost use Rattle.mt_packet.specs.Ipv4.{IsValidIpv4, header_length, has_ports};
+ghost use Rattle.mt_packet.specs.Write.{put_two, checksum_place, with_transport_checksum, with_address, with_port, with_dscp, with_ttl, with_header_zero, with_tcp_zero};
 
 use crate::bytes::{two_bytes, write_four, write_two};
-use crate::checksum::{ip_sum, transport_delta};
+use crate::checksum::{header_delta, transport_delta};
 use crate::datagram::{Datagram, TCP, UDP, header_bytes};
 
 /// Writes the time to live.
 #[tactic(auto, unfolding(crate::specs::Write::with_ttl))]
 pub fn time_to_live(datagram: &mut [u8], value: u8)
-    requires { HasHeader datagram.old }
+    requires { IsValidIpv4 datagram.old }
     ensures { datagram.new ≡ with_ttl datagram.old value }
 {
+    let old = two_bytes(datagram, 8);
     datagram[8] = value;
-    write_header_checksum(datagram);
+    let new = two_bytes(datagram, 8);
+    mend_header_checksum(datagram, u32::from(old), u32::from(new));
 }
 
 /// Writes the code point, which has at most six bits; the two bits beside it stay.
 #[tactic(auto, unfolding(crate::specs::Write::with_dscp))]
 pub fn code_point(datagram: &mut [u8], value: u8)
-    requires header { HasHeader datagram.old }
+    requires valid { IsValidIpv4 datagram.old }
     requires range { value ≤ 63 }
     ensures { datagram.new ≡ with_dscp datagram.old value }
 {
+    let old = two_bytes(datagram, 0);
     datagram[1] = value * 4 + datagram[1] % 4;
-    write_header_checksum(datagram);
+    let new = two_bytes(datagram, 0);
+    mend_header_checksum(datagram, u32::from(old), u32::from(new));
 }
 
 /// Writes an address of the header.
 #[tactic(auto, unfolding(crate::specs::Write::with_address))]
 pub fn address(datagram: &mut [u8], place: usize, value: u32)
-    requires header { HasHeader datagram.old }
-    requires low { 12 ≤ place }
-    requires high { place ≤ 16 }
+    requires valid { IsValidIpv4 datagram.old }
+    requires address { (place ≡ 12) ⊎ (place ≡ 16) }
     ensures { datagram.new ≡ with_address datagram.old place value }
 {
     let old = [two_bytes(datagram, place), two_bytes(datagram, place + 2)];
     let new = [(value / 65_536) as u16, (value % 65_536) as u16];
     write_four(datagram, place, value);
-    write_header_checksum(datagram);
+    mend_header_checksum(
+        datagram,
+        u32::from(old[0]) + u32::from(old[1]),
+        u32::from(new[0]) + u32::from(new[1]),
+    );
     mend_transport_checksum(datagram, &old, &new);
 }
 
@@ -54,16 +63,16 @@ pub fn port(datagram: &mut [u8], place: usize, value: u16)
     mend_transport_checksum(datagram, &old, &[value]);
 }
 
-/// Writes the header checksum.
-#[tactic(auto, unfolding(crate::specs::Write::with_header_checksum))]
-fn write_header_checksum(datagram: &mut [u8])
-    requires { HasHeader datagram.old }
-    ensures { datagram.new ≡ with_header_checksum datagram.old }
+/// Changes the header checksum by the difference of the words that were replaced (RFC 1624), which are
+/// told by their sums.
+fn mend_header_checksum(datagram: &mut [u8], old: u32, new: u32)
+    requires long { 20 ≤ length datagram.old }
+    requires old_words { old ≤ 131070 }
+    requires new_words { new ≤ 131070 }
+    ensures { datagram.new ≡ put_two datagram.old 10 ((two_bytes_at datagram.old 10 + old + negative_of new) % 65535) }
 {
-    let header = header_bytes(datagram);
-    write_two(datagram, 10, 0);
-    let sum = ip_sum(&datagram[..header]);
-    write_two(datagram, 10, (0xFFFF - sum) % 0xFFFF);
+    let mended = header_delta(two_bytes(datagram, 10), old, new);
+    write_two(datagram, 10, mended);
 }
 
 /// The place of the transport checksum.
