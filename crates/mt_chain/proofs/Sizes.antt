@@ -4,7 +4,7 @@ use Rattle.std.specs.Prelude.{if◌then◌else◌}
 use Rattle.std.proofs.lemmas.List.{length-set, length-append, length-take, take-append-drop}
 use Rattle.mt_packet.specs.Ipv4.{total_length}
 use Rattle.mt_packet.specs.Packet.{PacketState, has_ethernet, datagram_of, with_datagram, with_field, checked_datagram}
-use Rattle.mt_packet.specs.Write.{put_two, put_four, put_six, checksum_place, with_header_checksum, with_transport_checksum, with_address, with_port, with_dscp, with_ttl, ipv4_with_field, with_header_zero, with_tcp_zero}
+use Rattle.mt_packet.specs.Write.{put_two, put_four, put_six, checksum_offset, with_header_checksum, with_transport_checksum, with_address, with_port, with_dscp, with_ttl, ipv4_with_field, with_header_zero, with_tcp_zero}
 use Rattle.mt_packet.specs.declared.field.Field.{Field}
 use Rattle.mt_packet.specs.declared.field.Field.TheVariants.{EthType, EthDst, EthSrc, Src, Dst, Dscp, Sport, Dport, Ttl, Paint, Annotation}
 
@@ -27,7 +27,7 @@ length-header_checksum d = length-put_two d 10 _
 
 length-transport_checksum : (d old new : List ℕ) → length (with_transport_checksum d old new) ≡ length d
 unfolding with_transport_checksum
-length-transport_checksum d old new = same_either d _ _ (length-put_two d (checksum_place d) _)
+length-transport_checksum d old new = same_either d _ _ (length-put_two d (checksum_offset d) _)
 
 length-address : (d : List ℕ) (p v : ℕ) → length (with_address d p v) ≡ length d
 unfolding with_address
@@ -84,7 +84,7 @@ length-header_zero d = same_either d _ _ (length-put_two d 10 0)
 
 length-tcp_zero : (d : List ℕ) → length (with_tcp_zero d) ≡ length d
 unfolding with_tcp_zero
-length-tcp_zero d = same_either d _ _ (length-put_two d (checksum_place d) 0)
+length-tcp_zero d = same_either d _ _ (length-put_two d (checksum_offset d) 0)
 
 -- a check may only cut
 pub checked_no_longer : (d : List ℕ) → length (checked_datagram d) ≤ length d

@@ -12,7 +12,7 @@ pub(crate) fn is_whole(packet: &Packet) -> bool
     ensures value { result ≡ is_whole packet.now }
     ensures there { OnTrue result (HasEthernet packet.now) }
 {
-    packet.has_ethernet()
+    packet.has_whole_ethernet()
 }
 
 fn has_value(clause: Clause, packet: &Packet) -> bool

@@ -1,5 +1,5 @@
 -- The header checksum after a write, by the difference of the words that the write replaced.
-use Rattle.std.proofs.Common.{◌≡◌, ◌≢◌, ◌∙◌, ap, refl, ℕ, ◌+◌, ◌*◌, ◌/◌, ◌%◌, ◌≤◌, List, length, get_or, set, take, drop, sum, inl, inr, ◌⊎◌, arith}
+use Rattle.std.proofs.Common.{◌≡◌, ◌≢◌, ◌∙◌, ap, refl, ℕ, ◌+◌, ◌/◌, ◌%◌, ◌≤◌, List, length, get_or, set, take, drop, sum, inl, inr, ◌⊎◌, arith}
 use Rattle.std.proofs.lemmas.List.{get_or-set_other, length-set}
 use Rattle.mt_packet.proofs.Puts.{put_four-apart, two-put, put_two-apart}
 use Rattle.mt_packet.proofs.Right.{by-difference}

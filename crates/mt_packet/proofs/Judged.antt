@@ -5,14 +5,14 @@ use Rattle.std.proofs.lemmas.List.{get_or-take, get_or-drop, length-take, length
 use Rattle.mt_packet.proofs.After.{front, back}
 use Rattle.mt_packet.proofs.Kept.{datagram_of-checked, checked-layer, cut-message, cut-ports, header_zero-shape, tcp_zero-shape, zeros-shape}
 use Rattle.mt_packet.proofs.Puts.{ports-cases, put_two-apart}
-use Rattle.mt_packet.proofs.Reading.{SameEthernet, SameRest, rest-from, place-beyond, flags-low, flags-high, same-src, same-dst, same-dscp, same-ecn, same-ttl, same-sport, same-dport, same-icmp, same-ip_ok, same-two, valid-readable}
+use Rattle.mt_packet.proofs.Reading.{SameEthernet, SameRest, rest-from, offset-beyond, flags-low, flags-high, same-src, same-dst, same-dscp, same-ecn, same-ttl, same-sport, same-dport, same-icmp, same-ip_ok, same-two, valid-readable}
 use Rattle.mt_packet.proofs.Shape.{SameShape}
 use Rattle.mt_packet.proofs.Valid.{choose, valid-cut, valid-header_zero, valid-tcp_zero}
 use Rattle.mt_packet.specs.Field.{eth_dst_of, eth_src_of, arp_op_of}
 use Rattle.mt_packet.specs.Header.{fields_of}
 use Rattle.mt_packet.specs.Ipv4.{IsValidIpv4, header_length, total_length, has_message, has_ports, proto_of, src_of, dst_of, dscp_of, ecn_of, mf_of, frag_off_of, ttl_of, ports_of, sport_of, dport_of, icmp_type_of, tcp_flags_of, syn_of, ack_of, fin_of, rst_of}
 use Rattle.mt_packet.specs.Packet.{PacketState, has_ethernet, frame_of, datagram_of, packet_header, checked, checked_datagram, IsChecked}
-use Rattle.mt_packet.specs.Write.{checksum_place, with_header_zero, with_tcp_zero}
+use Rattle.mt_packet.specs.Write.{checksum_offset, with_header_zero, with_tcp_zero}
 
 -- the fields of two datagrams are the same
 pub record SameFields (old new : List ℕ) : Type 0 where
@@ -55,11 +55,11 @@ SameFields-trans a b c p q =
 
 -- datagrams of one shape that agree at every byte of a field
 from-bytes : (d e : List ℕ) → SameShape d e → IsValidIpv4 d → IsValidIpv4 e
-    → ((i : ℕ) → i ≢ 10 → i ≢ 11 → i ≢ checksum_place d → i ≢ checksum_place d + 1 → get_or e i 0 ≡ get_or d i 0)
+    → ((i : ℕ) → i ≢ 10 → i ≢ 11 → i ≢ checksum_offset d → i ≢ checksum_offset d + 1 → get_or e i 0 ≡ get_or d i 0)
     → SameFields d e
 from-bytes d e s v w at =
     let least = v.header_is_long_enough in
-    let beyond = place-beyond d in
+    let beyond = offset-beyond d in
     record {
       rest = rest-from d e s v w (same-icmp d e s (at (header_length d) (omega arith) (omega arith) (omega arith) (omega arith))) (at (header_length d + 13) (omega arith) (omega arith) (flags-low d) (flags-high d));
       f_src = same-src d e s (at (12) (omega arith) (omega arith) (omega arith) (omega arith)) (at (13) (omega arith) (omega arith) (omega arith) (omega arith)) (at (14) (omega arith) (omega arith) (omega arith) (omega arith)) (at (15) (omega arith) (omega arith) (omega arith) (omega arith));
@@ -76,10 +76,10 @@ unfolding with_header_zero
 header_zero-apart d i a b =
     choose _ (λ e. get_or e i 0 ≡ get_or d i 0) _ _ (λ _. put_two-apart d 10 0 i a b) (λ _. refl)
 
-tcp_zero-apart : (d : List ℕ) (i : ℕ) → i ≢ checksum_place d → i ≢ checksum_place d + 1 → get_or (with_tcp_zero d) i 0 ≡ get_or d i 0
+tcp_zero-apart : (d : List ℕ) (i : ℕ) → i ≢ checksum_offset d → i ≢ checksum_offset d + 1 → get_or (with_tcp_zero d) i 0 ≡ get_or d i 0
 unfolding with_tcp_zero
 tcp_zero-apart d i a b =
-    choose _ (λ e. get_or e i 0 ≡ get_or d i 0) _ _ (λ _. put_two-apart d (checksum_place d) 0 i a b) (λ _. refl)
+    choose _ (λ e. get_or e i 0 ≡ get_or d i 0) _ _ (λ _. put_two-apart d (checksum_offset d) 0 i a b) (λ _. refl)
 
 header_zero-fields : (d : List ℕ) → IsValidIpv4 d → SameFields d (with_header_zero d)
 header_zero-fields d v =

@@ -8,7 +8,7 @@ use Rattle.mt_packet.proofs.Valid.{choose, valid-cut, valid-header_zero, valid-a
 use Rattle.mt_packet.proofs.Views.{behind}
 use Rattle.mt_packet.specs.Ipv4.{IsValidIpv4, is_readable, header_length, total_length, carried_length, has_message, has_ports, frag_off_of, proto_of}
 use Rattle.mt_packet.specs.Packet.{PacketState, has_ethernet, datagram_of, with_datagram, with_field, CanWrite, IsChecked, checked, checked_datagram, layer_checked}
-use Rattle.mt_packet.specs.Write.{put_two, put_six, checksum_place, with_header_zero, with_tcp_zero}
+use Rattle.mt_packet.specs.Write.{put_two, put_six, checksum_offset, with_header_zero, with_tcp_zero}
 use Rattle.mt_packet.specs.declared.field.Field.{Field}
 use Rattle.mt_packet.specs.declared.field.Field.TheVariants.{Device, EthType, EthDst, EthSrc, ArpOp, Proto, Src, Dst, Dscp, Ecn, Sport, Dport, IcmpType, IpOk, Ports, Mf, FragOff, Ttl, Syn, Ack, Fin, Rst, Paint, Annotation}
 use Rattle.mt_packet.specs.declared.layer.Layer.{Layer}
@@ -140,7 +140,7 @@ header_zero-shape d =
 pub tcp_zero-shape : (d : List ℕ) → 20 ≤ header_length d → SameShape d (with_tcp_zero d)
 unfolding with_tcp_zero
 tcp_zero-shape d least =
-    choose _ (λ e. SameShape d e) _ _ (λ _. SameShape-put_two d (checksum_place d) 0 (omega arith)) (λ _. SameShape-refl d)
+    choose _ (λ e. SameShape d e) _ _ (λ _. SameShape-put_two d (checksum_offset d) 0 (omega arith)) (λ _. SameShape-refl d)
 
 -- what a cut to the total length leaves
 pub cut-message : (d : List ℕ) (protocol least : ℕ) → IsValidIpv4 d

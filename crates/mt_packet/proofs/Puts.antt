@@ -7,7 +7,7 @@ use Rattle.mt_packet.proofs.Readable.{tcp_long, udp_long}
 use Rattle.mt_packet.specs.Checksum.{words_of, ones_complement, negative_of}
 use Rattle.mt_packet.specs.Field.{two_bytes_at}
 use Rattle.mt_packet.specs.Ipv4.{header_length, has_ports, has_message, proto_of}
-use Rattle.mt_packet.specs.Write.{put_two, put_four, checksum_place, with_header_checksum}
+use Rattle.mt_packet.specs.Write.{put_two, put_four, checksum_offset, with_header_checksum}
 
 -- a byte at which a write does not stand
 pub put_two-apart : (d : List ℕ) (p v i : ℕ) → i ≢ p → i ≢ p + 1 → get_or (put_two d p v) i 0 ≡ get_or d i 0
@@ -77,14 +77,14 @@ unfolding has_ports
 ports-cases datagram h = one_of (has_message datagram 6 20) (has_message datagram 17 8) h
 
 tcp_within : (datagram : List ℕ) → has_message datagram 6 20 ≡ true
-    → (20 ≤ length datagram) × (checksum_place datagram + 1 < length datagram)
+    → (20 ≤ length datagram) × (checksum_offset datagram + 1 < length datagram)
 tcp_within datagram h =
     let p = message_proto datagram 6 20 h in
     let l = tcp_long datagram h in
     rw p (omega arith, omega arith)
 
 udp_within : (datagram : List ℕ) → has_message datagram 17 8 ≡ true
-    → (20 ≤ length datagram) × (checksum_place datagram + 1 < length datagram)
+    → (20 ≤ length datagram) × (checksum_offset datagram + 1 < length datagram)
 udp_within datagram h =
     let p = message_proto datagram 17 8 h in
     let l = udp_long datagram h in
@@ -92,6 +92,6 @@ udp_within datagram h =
 
 -- the transport checksum lies within the packet
 pub checksum_within : (datagram : List ℕ) → has_ports datagram ≡ true
-    → (20 ≤ length datagram) × (checksum_place datagram + 1 < length datagram)
+    → (20 ≤ length datagram) × (checksum_offset datagram + 1 < length datagram)
 checksum_within datagram h =
     elim (ports-cases datagram h) [ inl t ↦ tcp_within datagram t | inr u ↦ udp_within datagram u ]

@@ -8,20 +8,20 @@ use Rattle.mt_packet.specs.Ipv4.{header_length, proto_of, src_of, dst_of, dscp_o
 use Rattle.mt_packet.specs.declared.field.Field.{Field}
 use Rattle.mt_packet.specs.declared.field.Field.TheVariants.{Device, EthType, EthDst, EthSrc, ArpOp, Proto, Src, Dst, Dscp, Ecn, Sport, Dport, IcmpType, IpOk, Ports, Mf, FragOff, Ttl, Syn, Ack, Fin, Rst, Paint, Annotation}
 
--- bytes past a place are bytes
+-- bytes past an offset are bytes
 pub AreBytes-drop : (bytes : List ℕ) (n : ℕ) → AreBytes bytes → AreBytes (drop n bytes)
-AreBytes-drop bytes n h place = rw (get_or-drop n bytes place 0) (h (n + place))
+AreBytes-drop bytes n h offset = rw (get_or-drop n bytes offset 0) (h (n + offset))
 
-pub two_bytes-range : (bytes : List ℕ) (place : ℕ) → AreBytes bytes → two_bytes_at bytes place ≤ 65535
-two_bytes-range bytes place h = omega (arith, h place, h (place + 1))
+pub two_bytes-range : (bytes : List ℕ) (offset : ℕ) → AreBytes bytes → two_bytes_at bytes offset ≤ 65535
+two_bytes-range bytes offset h = omega (arith, h offset, h (offset + 1))
 
-pub four_bytes-range : (bytes : List ℕ) (place : ℕ) → AreBytes bytes → four_bytes_at bytes place ≤ 4294967295
-four_bytes-range bytes place h =
-    omega (arith, two_bytes-range bytes place h, two_bytes-range bytes (place + 2) h)
+pub four_bytes-range : (bytes : List ℕ) (offset : ℕ) → AreBytes bytes → four_bytes_at bytes offset ≤ 4294967295
+four_bytes-range bytes offset h =
+    omega (arith, two_bytes-range bytes offset h, two_bytes-range bytes (offset + 2) h)
 
-pub six_bytes-range : (bytes : List ℕ) (place : ℕ) → AreBytes bytes → six_bytes_at bytes place ≤ 281474976710655
-six_bytes-range bytes place h =
-    omega (arith, two_bytes-range bytes place h, four_bytes-range bytes (place + 2) h)
+pub six_bytes-range : (bytes : List ℕ) (offset : ℕ) → AreBytes bytes → six_bytes_at bytes offset ≤ 281474976710655
+six_bytes-range bytes offset h =
+    omega (arith, two_bytes-range bytes offset h, four_bytes-range bytes (offset + 2) h)
 
 eth_type-range : (frame : List ℕ) → AreBytes frame → eth_type_of frame ≤ 65536
 eth_type-range frame h = grind (arith, nat_tests, two_bytes-range frame 12 h)

@@ -6,27 +6,27 @@ use Rattle.std.proofs.lemmas.List.{get_or-set_other, get_or-set_same, length-set
 use Rattle.mt_packet.proofs.Frames.{valid-tested}
 use Rattle.mt_packet.proofs.Puts.{message_proto, ports-cases, put_two-apart, put_four-apart, two-put}
 use Rattle.mt_packet.proofs.Readable.{ports_long}
-use Rattle.mt_packet.proofs.Shape.{SameShape, SameShape-trans, SameShape-put_two, SameShape-put_four, SameShape-header_checksum, same-header_length, same-readable, same-proto, same-frag_off, same-mf, same-message, same-ports, same-place}
+use Rattle.mt_packet.proofs.Shape.{SameShape, SameShape-trans, SameShape-put_two, SameShape-put_four, SameShape-header_checksum, same-header_length, same-readable, same-proto, same-frag_off, same-mf, same-message, same-ports, same-offset}
 use Rattle.mt_packet.proofs.Valid.{choose, valid-address, valid-port, valid-ttl, valid-dscp, shape-address, shape-port, shape-ttl, shape-dscp}
 use Rattle.mt_packet.specs.Field.{two_bytes_at, four_bytes_at, eth_type_of, eth_dst_of, eth_src_of, arp_op_of}
 use Rattle.mt_packet.specs.Header.{fields_of}
 use Rattle.mt_packet.specs.Ipv4.{IsValidIpv4, header_length, is_readable, proto_of, src_of, dst_of, dscp_of, ecn_of, mf_of, frag_off_of, ttl_of, has_message, has_ports, ports_of, sport_of, dport_of, icmp_type_of, tcp_flags_of, syn_of, ack_of, fin_of, rst_of, ip_ok_of}
-use Rattle.mt_packet.specs.Write.{put_two, put_four, checksum_place, with_header_checksum, with_transport_checksum, with_address, with_port, with_dscp, with_ttl}
+use Rattle.mt_packet.specs.Write.{put_two, put_four, checksum_offset, with_header_checksum, with_transport_checksum, with_address, with_port, with_dscp, with_ttl}
 
 header_checksum-apart : (d : List ℕ) (i : ℕ) → i ≢ 10 → i ≢ 11 → get_or (with_header_checksum d) i 0 ≡ get_or d i 0
 unfolding with_header_checksum
 header_checksum-apart d i a b = put_two-apart d 10 _ i a b
 
-transport-apart : (d old new : List ℕ) (i : ℕ) → i ≢ checksum_place d → i ≢ checksum_place d + 1
+transport-apart : (d old new : List ℕ) (i : ℕ) → i ≢ checksum_offset d → i ≢ checksum_offset d + 1
     → get_or (with_transport_checksum d old new) i 0 ≡ get_or d i 0
 unfolding with_transport_checksum
 transport-apart d old new i a b =
     choose (has_ports d) (λ e. get_or e i 0 ≡ get_or d i 0) _ _
-    (λ _. put_two-apart d (checksum_place d) _ i a b) (λ _. refl)
+    (λ _. put_two-apart d (checksum_offset d) _ i a b) (λ _. refl)
 
 -- the transport checksum stands apart from the ports and from the flags
-place-cases : (d : List ℕ) → (checksum_place d ≡ header_length d + 6) ⊎ (checksum_place d ≡ header_length d + 16)
-place-cases d = pick (eqb (proto_of d) 17)
+offset-cases : (d : List ℕ) → (checksum_offset d ≡ header_length d + 6) ⊎ (checksum_offset d ≡ header_length d + 16)
+offset-cases d = pick (eqb (proto_of d) 17)
   where
     pick : (b : Bool) → (header_length d + cond b 6 16 ≡ header_length d + 6) ⊎ (header_length d + cond b 6 16 ≡ header_length d + 16)
     pick true = inl refl
@@ -44,23 +44,23 @@ address-shape : (d : List ℕ) (p v : ℕ) → 10 ≤ p → SameShape d (with_he
 address-shape d p v far = SameShape-trans d _ _ (SameShape-put_four d p v far) (SameShape-header_checksum (put_four d p v))
 
 address-apart : (d : List ℕ) (p v i : ℕ) → 10 ≤ p → i ≢ p → i ≢ p + 1 → i ≢ p + 2 → i ≢ p + 3 → i ≢ 10 → i ≢ 11
-    → i ≢ checksum_place d → i ≢ checksum_place d + 1 → get_or (with_address d p v) i 0 ≡ get_or d i 0
+    → i ≢ checksum_offset d → i ≢ checksum_offset d + 1 → get_or (with_address d p v) i 0 ≡ get_or d i 0
 unfolding with_address
 address-apart d p v i far a b c e t u k l =
-    let same = same-place d _ (address-shape d p v far) in
-    let k' : i ≢ checksum_place (with_header_checksum (put_four d p v)) = rw same k in
-    let l' : i ≢ checksum_place (with_header_checksum (put_four d p v)) + 1 = rw same l in
+    let same = same-offset d _ (address-shape d p v far) in
+    let k' : i ≢ checksum_offset (with_header_checksum (put_four d p v)) = rw same k in
+    let l' : i ≢ checksum_offset (with_header_checksum (put_four d p v)) + 1 = rw same l in
     transport-apart (with_header_checksum (put_four d p v)) _ _ i k' l'
     ∙ header_checksum-apart (put_four d p v) i t u
     ∙ put_four-apart d p v i a b c e
 
 port-apart : (d : List ℕ) (p v i : ℕ) → 10 ≤ p → i ≢ p → i ≢ p + 1
-    → i ≢ checksum_place d → i ≢ checksum_place d + 1 → get_or (with_port d p v) i 0 ≡ get_or d i 0
+    → i ≢ checksum_offset d → i ≢ checksum_offset d + 1 → get_or (with_port d p v) i 0 ≡ get_or d i 0
 unfolding with_port
 port-apart d p v i far a b k l =
-    let same = same-place d _ (SameShape-put_two d p v far) in
-    let k' : i ≢ checksum_place (put_two d p v) = rw same k in
-    let l' : i ≢ checksum_place (put_two d p v) + 1 = rw same l in
+    let same = same-offset d _ (SameShape-put_two d p v far) in
+    let k' : i ≢ checksum_offset (put_two d p v) = rw same k in
+    let l' : i ≢ checksum_offset (put_two d p v) + 1 = rw same l in
     transport-apart (put_two d p v) _ _ i k' l' ∙ put_two-apart d p v i a b
 
 -- fields of datagrams of one shape whose bytes there are the same
@@ -155,14 +155,14 @@ same-icmp-ports d e s h =
     cc
 
 -- the transport checksum stands behind the ports, and apart from the flags
-pub place-beyond : (d : List ℕ) → header_length d + 6 ≤ checksum_place d
-place-beyond d = elim (place-cases d) [ inl e ↦ omega arith | inr e ↦ omega arith ]
+pub offset-beyond : (d : List ℕ) → header_length d + 6 ≤ checksum_offset d
+offset-beyond d = elim (offset-cases d) [ inl e ↦ omega arith | inr e ↦ omega arith ]
 
-pub flags-low : (d : List ℕ) → header_length d + 13 ≢ checksum_place d
-flags-low d = elim (place-cases d) [ inl e ↦ omega arith | inr e ↦ omega arith ]
+pub flags-low : (d : List ℕ) → header_length d + 13 ≢ checksum_offset d
+flags-low d = elim (offset-cases d) [ inl e ↦ omega arith | inr e ↦ omega arith ]
 
-pub flags-high : (d : List ℕ) → header_length d + 13 ≢ checksum_place d + 1
-flags-high d = elim (place-cases d) [ inl e ↦ omega arith | inr e ↦ omega arith ]
+pub flags-high : (d : List ℕ) → header_length d + 13 ≢ checksum_offset d + 1
+flags-high d = elim (offset-cases d) [ inl e ↦ omega arith | inr e ↦ omega arith ]
 
 -- a number that is put into four bytes
 pub four-put-low : (d : List ℕ) (p v : ℕ) → p + 3 < length d → four_bytes_at (put_four d p v) p ≡ v % 4294967296
@@ -240,7 +240,7 @@ pub ttl-fields : (device : ℕ) (frame after d : List ℕ) (v paint annotation :
     → fields_of device after (with_ttl d v) paint annotation ≡ set (fields_of device frame d paint annotation) 17 v
 ttl-fields device frame after d v paint annotation same w =
     let least = w.header_is_long_enough in
-    let beyond = place-beyond d in
+    let beyond = offset-beyond d in
     let s = shape-ttl d v in
     let rest =
     rest-from d (with_ttl d v) s w (valid-ttl d v w)
@@ -279,7 +279,7 @@ pub dscp-fields : (device : ℕ) (frame after d : List ℕ) (v paint annotation 
     → fields_of device after (with_dscp d v) paint annotation ≡ set (fields_of device frame d paint annotation) 8 v
 dscp-fields device frame after d v paint annotation same w =
     let least = w.header_is_long_enough in
-    let beyond = place-beyond d in
+    let beyond = offset-beyond d in
     let ecn = same-ecn d _ (shape-dscp d v) (dscp-low d v w) in
     let s = shape-dscp d v in
     let rest =
@@ -295,20 +295,20 @@ dscp-fields device frame after d v paint annotation same w =
     cc
 
 -- after a write of an address
-address-inner : (d : List ℕ) (p v i : ℕ) → 10 ≤ p → i ≢ 10 → i ≢ 11 → i ≢ checksum_place d → i ≢ checksum_place d + 1
+address-inner : (d : List ℕ) (p v i : ℕ) → 10 ≤ p → i ≢ 10 → i ≢ 11 → i ≢ checksum_offset d → i ≢ checksum_offset d + 1
     → get_or (with_address d p v) i 0 ≡ get_or (put_four d p v) i 0
 unfolding with_address
 address-inner d p v i far t u k l =
-    let same = same-place d _ (address-shape d p v far) in
-    let k' : i ≢ checksum_place (with_header_checksum (put_four d p v)) = rw same k in
-    let l' : i ≢ checksum_place (with_header_checksum (put_four d p v)) + 1 = rw same l in
+    let same = same-offset d _ (address-shape d p v far) in
+    let k' : i ≢ checksum_offset (with_header_checksum (put_four d p v)) = rw same k in
+    let l' : i ≢ checksum_offset (with_header_checksum (put_four d p v)) + 1 = rw same l in
     transport-apart (with_header_checksum (put_four d p v)) _ _ i k' l' ∙ header_checksum-apart (put_four d p v) i t u
 
 src-read : (d : List ℕ) (v : ℕ) → IsValidIpv4 d → v ≤ 4294967295 → src_of (with_address d 12 v) ≡ v
 unfolding src_of
 src-read d v w small =
     let least = w.header_is_long_enough in
-    let beyond = place-beyond d in
+    let beyond = offset-beyond d in
     let long = w.has_fixed_part in
     let b0 = address-inner d 12 v 12 (omega arith) (omega arith) (omega arith) (omega arith) (omega arith) in
     let b1 = address-inner d 12 v 13 (omega arith) (omega arith) (omega arith) (omega arith) (omega arith) in
@@ -323,7 +323,7 @@ pub src-fields : (device : ℕ) (frame after d : List ℕ) (v paint annotation :
     → fields_of device after (with_address d 12 v) paint annotation ≡ set (fields_of device frame d paint annotation) 6 v
 src-fields device frame after d v paint annotation same w small =
     let least = w.header_is_long_enough in
-    let beyond = place-beyond d in
+    let beyond = offset-beyond d in
     let s = shape-address d 12 v (omega arith) least in
     let rest =
     rest-from d (with_address d 12 v) s w (valid-address d 12 v (omega arith) w)
@@ -343,7 +343,7 @@ dst-read : (d : List ℕ) (v : ℕ) → IsValidIpv4 d → v ≤ 4294967295 → d
 unfolding dst_of
 dst-read d v w small =
     let least = w.header_is_long_enough in
-    let beyond = place-beyond d in
+    let beyond = offset-beyond d in
     let long = w.has_fixed_part in
     let b0 = address-inner d 16 v 16 (omega arith) (omega arith) (omega arith) (omega arith) (omega arith) in
     let b1 = address-inner d 16 v 17 (omega arith) (omega arith) (omega arith) (omega arith) (omega arith) in
@@ -358,7 +358,7 @@ pub dst-fields : (device : ℕ) (frame after d : List ℕ) (v paint annotation :
     → fields_of device after (with_address d 16 v) paint annotation ≡ set (fields_of device frame d paint annotation) 7 v
 dst-fields device frame after d v paint annotation same w small =
     let least = w.header_is_long_enough in
-    let beyond = place-beyond d in
+    let beyond = offset-beyond d in
     let s = shape-address d 16 v (omega arith) least in
     let rest =
     rest-from d (with_address d 16 v) s w (valid-address d 16 v (omega arith) w)
@@ -375,20 +375,20 @@ dst-fields device frame after d v paint annotation same w small =
     cc
 
 -- after a write of a port
-port-inner : (d : List ℕ) (p v i : ℕ) → 10 ≤ p → i ≢ checksum_place d → i ≢ checksum_place d + 1
+port-inner : (d : List ℕ) (p v i : ℕ) → 10 ≤ p → i ≢ checksum_offset d → i ≢ checksum_offset d + 1
     → get_or (with_port d p v) i 0 ≡ get_or (put_two d p v) i 0
 unfolding with_port
 port-inner d p v i far k l =
-    let same = same-place d _ (SameShape-put_two d p v far) in
-    let k' : i ≢ checksum_place (put_two d p v) = rw same k in
-    let l' : i ≢ checksum_place (put_two d p v) + 1 = rw same l in
+    let same = same-offset d _ (SameShape-put_two d p v far) in
+    let k' : i ≢ checksum_offset (put_two d p v) = rw same k in
+    let l' : i ≢ checksum_offset (put_two d p v) + 1 = rw same l in
     transport-apart (put_two d p v) _ _ i k' l'
 
 port-value : (d : List ℕ) (at v : ℕ) → IsValidIpv4 d → has_ports d ≡ true → at ≤ 2 → v ≤ 65535
     → two_bytes_at (with_port d (header_length d + at) v) (header_length d + at) ≡ v
 port-value d at v w h low small =
     let least = w.header_is_long_enough in
-    let beyond = place-beyond d in
+    let beyond = offset-beyond d in
     let long = ports_long d h in
     let b0 = port-inner d (header_length d + at) v (header_length d + at) (omega arith) (omega arith) (omega arith) in
     let b1 = port-inner d (header_length d + at) v (header_length d + at + 1) (omega arith) (omega arith) (omega arith) in
@@ -411,7 +411,7 @@ pub sport-fields : (device : ℕ) (frame after d : List ℕ) (v paint annotation
     → fields_of device after (with_port d (header_length d) v) paint annotation ≡ set (fields_of device frame d paint annotation) 10 v
 sport-fields device frame after d v paint annotation same w h small =
     let least = w.header_is_long_enough in
-    let beyond = place-beyond d in
+    let beyond = offset-beyond d in
     let s = shape-port d (header_length d) v (omega arith) least in
     let rest =
     rest-from d (with_port d (header_length d) v) s w (valid-port d (header_length d) v (omega arith) w)
@@ -442,7 +442,7 @@ pub dport-fields : (device : ℕ) (frame after d : List ℕ) (v paint annotation
     → fields_of device after (with_port d (header_length d + 2) v) paint annotation ≡ set (fields_of device frame d paint annotation) 11 v
 dport-fields device frame after d v paint annotation same w h small =
     let least = w.header_is_long_enough in
-    let beyond = place-beyond d in
+    let beyond = offset-beyond d in
     let s = shape-port d (header_length d + 2) v (omega arith) least in
     let rest =
     rest-from d (with_port d (header_length d + 2) v) s w (valid-port d (header_length d + 2) v (omega arith) w)

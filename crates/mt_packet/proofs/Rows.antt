@@ -1,10 +1,10 @@
 -- The definitions tried on frames of which the headers and the checksums are known.
-use Rattle.std.proofs.Common.{◌≡◌, refl, ℕ, List, [], ◌∷◌, drop, true, false}
+use Rattle.std.proofs.Common.{◌≡◌, refl, ℕ, List, [], ◌∷◌, drop}
 use Rattle.mt_packet.specs.Checksum.{words_of, ones_complement_sum, checksum_after_write, transport_after_write}
 use Rattle.mt_packet.specs.Field.{eth_dst_of, eth_src_of, arp_op_of}
 use Rattle.mt_packet.specs.Header.{header_of}
 use Rattle.mt_packet.specs.Ipv4.{is_readable, is_valid_ipv4, has_message, has_ports, proto_of, src_of, dst_of, dscp_of, ecn_of, sport_of, dport_of, icmp_type_of, ip_ok_of, ports_of, mf_of, frag_off_of, ttl_of, tcp_flags_of, syn_of, ack_of, fin_of, rst_of}
-use Rattle.mt_packet.specs.Write.{header_checksum, with_header_checksum, with_transport_checksum, with_address, with_port, with_ttl}
+use Rattle.mt_packet.specs.Write.{header_checksum, with_header_checksum, with_ttl}
 
 -- UDP from 10.0.0.5:5000 to 198.51.100.9:53
 abbrev udp : List ℕ

@@ -1,11 +1,11 @@
--- Two datagrams of one shape: the bytes on which the tests and the places of all fields depend.
+-- Two datagrams of one shape: the bytes on which the tests and the offsets of all fields depend.
 use Rattle.std.proofs.Common.{◌≡◌, ◌≢◌, ◌∙◌, ap, refl, ℕ, ◌+◌, ◌*◌, ◌/◌, ◌%◌, ◌≤◌, List, length, get_or, set, true, inl, inr, arith}
 use Rattle.std.proofs.lemmas.Bool.Decides.{nat_tests}
 use Rattle.std.proofs.lemmas.Grind.{common_steps}
 use Rattle.std.proofs.lemmas.List.{get_or-set_other, length-set}
 use Rattle.mt_packet.proofs.Puts.{ports-cases}
 use Rattle.mt_packet.specs.Ipv4.{header_length, total_length, is_readable, proto_of, frag_off_of, mf_of, has_message, has_ports}
-use Rattle.mt_packet.specs.Write.{put_two, put_four, checksum_place, with_header_checksum}
+use Rattle.mt_packet.specs.Write.{put_two, put_four, checksum_offset, with_header_checksum}
 
 -- the second has the length and the shaping bytes of the first
 pub record SameShape (old new : List ℕ) : Type 0 where
@@ -110,5 +110,5 @@ pub same-ports : (d e : List ℕ) → SameShape d e → has_ports e ≡ has_port
 unfolding has_ports
 same-ports d e s = let t = same-message d e 6 20 s in let u = same-message d e 17 8 s in cc
 
-pub same-place : (d e : List ℕ) → SameShape d e → checksum_place e ≡ checksum_place d
-same-place d e s = let h = same-header_length d e s in let p = same-proto d e s in cc
+pub same-offset : (d e : List ℕ) → SameShape d e → checksum_offset e ≡ checksum_offset d
+same-offset d e s = let h = same-header_length d e s in let p = same-proto d e s in cc

@@ -10,10 +10,10 @@ pub ones_complement-small : (n : ℕ) → n ≤ 65535 → ones_complement n ≡ 
 ones_complement-small n h = grind (arith, nat_tests)
 
 -- where no words are left, the total is the sum
-pub ones_complement-done : (total : ℕ) (bytes : List ℕ) (place all : ℕ) → total ≤ 65535 → length bytes ≤ place
-    → ones_complement (total + sum (words_of (drop place bytes))) ≡ all → total ≡ all
-ones_complement-done total bytes place all small done whole =
-    let e : ones_complement (total + 0) ≡ all = rw (drop_all place bytes done) at whole in
+pub ones_complement-done : (total : ℕ) (bytes : List ℕ) (offset all : ℕ) → total ≤ 65535 → length bytes ≤ offset
+    → ones_complement (total + sum (words_of (drop offset bytes))) ≡ all → total ≡ all
+ones_complement-done total bytes offset all small done whole =
+    let e : ones_complement (total + 0) ≡ all = rw (drop_all offset bytes done) at whole in
     let same : total + 0 ≡ total = omega arith in
     sym (ones_complement-small total small) ∙ ap ones_complement (sym same) ∙ e
 

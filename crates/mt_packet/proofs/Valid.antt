@@ -8,7 +8,7 @@ use Rattle.mt_packet.specs.Checksum.{words_of, ones_complement}
 use Rattle.mt_packet.specs.Field.{two_bytes_at}
 use Rattle.mt_packet.specs.Ipv4.{IsValidIpv4, header_length, total_length, has_ports}
 use Rattle.mt_packet.specs.Packet.{checked_datagram}
-use Rattle.mt_packet.specs.Write.{put_two, put_four, checksum_place, with_header_checksum, with_transport_checksum, with_address, with_port, with_dscp, with_ttl, with_header_zero, with_tcp_zero}
+use Rattle.mt_packet.specs.Write.{put_two, put_four, checksum_offset, with_header_checksum, with_transport_checksum, with_address, with_port, with_dscp, with_ttl, with_header_zero, with_tcp_zero}
 
 -- what holds of both of two lists holds of the one chosen
 pub choose : (b : Bool) (P : List ℕ → Type 0) (x y : List ℕ) → (b ≡ true → P x) → (b ≡ false → P y) → P (cond b x y)
@@ -63,19 +63,19 @@ valid-beyond d p v far w =
     (ap ones_complement (header_sum-beyond d p v far ten) ∙ w.sum_is_right)
 
 -- the transport checksum stands behind the header
-place-far : (d : List ℕ) → header_length d ≤ checksum_place d
-place-far d = omega arith
+offset-far : (d : List ℕ) → header_length d ≤ checksum_offset d
+offset-far d = omega arith
 
 pub valid-transport : (d : List ℕ) (old new : List ℕ) → IsValidIpv4 d → IsValidIpv4 (with_transport_checksum d old new)
 unfolding with_transport_checksum
 valid-transport d old new v =
-    choose (has_ports d) (λ e. IsValidIpv4 e) _ _ (λ _. valid-beyond d (checksum_place d) _ (place-far d) v) (λ _. v)
+    choose (has_ports d) (λ e. IsValidIpv4 e) _ _ (λ _. valid-beyond d (checksum_offset d) _ (offset-far d) v) (λ _. v)
 
 pub shape-transport : (d : List ℕ) (old new : List ℕ) → 20 ≤ header_length d → SameShape d (with_transport_checksum d old new)
 unfolding with_transport_checksum
 shape-transport d old new least =
-    let far = place-far d in
-    choose (has_ports d) (λ e. SameShape d e) _ _ (λ _. SameShape-put_two d (checksum_place d) _ (omega arith)) (λ _. SameShape-refl d)
+    let far = offset-far d in
+    choose (has_ports d) (λ e. SameShape d e) _ _ (λ _. SameShape-put_two d (checksum_offset d) _ (omega arith)) (λ _. SameShape-refl d)
 
 pub valid-address : (d : List ℕ) (p v : ℕ) → 10 ≤ p → IsValidIpv4 d → IsValidIpv4 (with_address d p v)
 unfolding with_address
@@ -170,7 +170,7 @@ valid-header_zero d v =
 pub valid-tcp_zero : (d : List ℕ) → IsValidIpv4 d → IsValidIpv4 (with_tcp_zero d)
 unfolding with_tcp_zero
 valid-tcp_zero d v =
-    choose _ (λ e. IsValidIpv4 e) _ _ (λ _. valid-beyond d (checksum_place d) 0 (place-far d) v) (λ _. v)
+    choose _ (λ e. IsValidIpv4 e) _ _ (λ _. valid-beyond d (checksum_offset d) 0 (offset-far d) v) (λ _. v)
 
 -- a checked packet is valid
 pub valid-checked : (d : List ℕ) → IsValidIpv4 d → IsValidIpv4 (checked_datagram d)

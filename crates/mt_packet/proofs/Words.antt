@@ -1,7 +1,7 @@
 -- The words of a header, one by one, in its sum.
-use Rattle.std.proofs.Common.{◌≡◌, ◌≢◌, ◌∙◌, sym, ap, refl, ℕ, ◌+◌, ◌-◌, ◌*◌, ◌/◌, ◌%◌, ◌<◌, ◌≤◌, min, List, [], ◌∷◌, length, get_or, set, take, drop, sum, arith}
+use Rattle.std.proofs.Common.{◌≡◌, ◌∙◌, sym, ap, refl, ℕ, ◌+◌, ◌-◌, ◌*◌, ◌/◌, ◌%◌, ◌<◌, ◌≤◌, min, List, [], ◌∷◌, length, get_or, set, take, drop, sum, arith}
 use Rattle.std.proofs.Math.Seq.{take-set-lt}
-use Rattle.std.proofs.lemmas.List.{drop-drop, get_or-drop, get_or-take, drop-set-lt, length-take, length-set, take-set-le, length-drop, get_or-set_other, get_or-set_same}
+use Rattle.std.proofs.lemmas.List.{drop-drop, get_or-drop, get_or-take, drop-set-lt, length-take, length-drop}
 use Rattle.mt_packet.proofs.Sums.{sum-cons}
 use Rattle.mt_packet.specs.Checksum.{words_of}
 use Rattle.mt_packet.specs.Field.{two_bytes_at}

@@ -1,18 +1,18 @@
 -- The numbers that stand in the bytes of a frame, in network order, and the fields of its Ethernet
--- header (IEEE 802.3). A place past the end reads as 0.
+-- header (IEEE 802.3). An offset past the end reads as 0.
 use Rattle.std.specs.Prelude.{ℕ, ◌+◌, ◌*◌, List, length, slice_index, nat_lt, ◌==◌, if◌then◌else◌}
 
--- the number in two bytes from a place on, in network order
+-- the number in two bytes from an offset on, in network order
 abbrev pub two_bytes_at : List ℕ → ℕ → ℕ
-two_bytes_at bytes place = slice_index bytes place * 256 + slice_index bytes (place + 1)
+two_bytes_at bytes offset = slice_index bytes offset * 256 + slice_index bytes (offset + 1)
 
--- the number in four bytes from a place on
+-- the number in four bytes from an offset on
 abbrev pub four_bytes_at : List ℕ → ℕ → ℕ
-four_bytes_at bytes place = two_bytes_at bytes place * 65536 + two_bytes_at bytes (place + 2)
+four_bytes_at bytes offset = two_bytes_at bytes offset * 65536 + two_bytes_at bytes (offset + 2)
 
--- the number in six bytes from a place on
+-- the number in six bytes from an offset on
 abbrev pub six_bytes_at : List ℕ → ℕ → ℕ
-six_bytes_at bytes place = two_bytes_at bytes place * 4294967296 + four_bytes_at bytes (place + 2)
+six_bytes_at bytes offset = two_bytes_at bytes offset * 4294967296 + four_bytes_at bytes (offset + 2)
 
 -- the EtherType of IEEE 802.3; 65536 where the frame has no whole Ethernet header
 abbrev pub eth_type_of : List ℕ → ℕ

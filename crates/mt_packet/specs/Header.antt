@@ -9,7 +9,7 @@ use Rattle.mt_packet.specs.Ipv4.{proto_of, src_of, dst_of, dscp_of, ecn_of, spor
 use Rattle.mt_packet.specs.declared.field.Field.{Field}
 use Rattle.mt_packet.specs.declared.field.Field.TheVariants.{Device, EthType, EthDst, EthSrc, ArpOp, Proto, Src, Dst, Dscp, Ecn, Sport, Dport, IcmpType, IpOk, Ports, Mf, FragOff, Ttl, Syn, Ack, Fin, Rst, Paint, Annotation}
 
--- a field's number, which is its place in a header
+-- a field's number, which is its index in a header
 abbrev pub number_of : Field → ℕ
 number_of Device = 0
 number_of EthType = 1
@@ -103,7 +103,7 @@ pub record InVisibleRanges (values : List ℕ) : Type 0 where
 
 -- each item is a byte
 abbrev pub AreBytes : List ℕ → Type 0
-AreBytes bytes = (place : ℕ) → slice_index bytes place < 256
+AreBytes bytes = (offset : ℕ) → slice_index bytes offset < 256
 
 -- the fields in order, of a device, the bytes in which the Ethernet header stands, the data behind
 -- it, a paint and an annotation

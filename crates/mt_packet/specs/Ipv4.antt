@@ -1,6 +1,6 @@
 -- The fields of an IPv4 packet (RFC 791), of the TCP or UDP header in it (RFC 9293, RFC 768), and the
 -- type of an ICMP message (RFC 792). The data are the bytes past the Ethernet header; each field is
--- read by itself, at its own place. Where a field is absent it has the value that its line names.
+-- read by itself, at its own offset. Where a field is absent it has the value that its line names.
 use Rattle.std.specs.Prelude.{◌≡◌, ℕ, ◌+◌, ◌*◌, ◌/◌, ◌%◌, ◌≤◌, min, List, length, take, slice_index, Bool, nat_le, ◌==◌, ◌&&◌, ◌||◌, if◌then◌else◌}
 use Rattle.mt_packet.specs.Checksum.{ones_complement_sum, words_of}
 use Rattle.mt_packet.specs.Field.{two_bytes_at, four_bytes_at}

@@ -3,20 +3,20 @@ ghost use Rattle.std.specs.Prelude.{◌≡◌, ◌+◌, ◌%◌, ◌≤◌};
 ghost use Rattle.mt_packet.specs.Checksum.{words_of, negative_of, ones_complement, ones_complement_sum, checksum_after_write, transport_after_write};
 
 /// The ones' complement sum of the 16-bit words of the bytes, in network order (RFC 1071). A last
-/// odd byte counts as the high byte of a word. The sum of a header with its checksum in place is
+/// odd byte counts as the high byte of a word. The sum of a header with its checksum in it is
 /// 0xFFFF where the checksum is right.
 pub fn ip_sum(bytes: &[u8]) -> u16
     ensures { result ≡ ones_complement_sum (words_of bytes.now) }
 {
     let mut total: u16 = 0;
-    let mut place = 0;
-    while place + 1 < bytes.len() {
-        let word = u16::from(bytes[place]) * 256 + u16::from(bytes[place + 1]);
+    let mut offset = 0;
+    while offset + 1 < bytes.len() {
+        let word = u16::from(bytes[offset]) * 256 + u16::from(bytes[offset + 1]);
         total = with_carry(total, word);
-        place += 2;
+        offset += 2;
     }
-    if place < bytes.len() {
-        return with_carry(total, u16::from(bytes[place]) * 256);
+    if offset < bytes.len() {
+        return with_carry(total, u16::from(bytes[offset]) * 256);
     }
     total
 }

@@ -1,6 +1,7 @@
 //! The fields of an IPv4 packet and of the TCP, UDP or ICMP header in it.
-ghost use Rattle.std.specs.Prelude.{◌≡◌, ◌+◌, ◌<◌, ◌≤◌, length, ◌↔◌, IsTrue, Option, Some, None, if◌then◌else◌};
+ghost use Rattle.std.specs.Prelude.{◌≡◌, ◌+◌, ◌<◌, ◌≤◌, length, ◌↔◌, true, IsTrue, Option, Some, None, if◌then◌else◌};
 ghost use Rattle.mt_packet.specs.Flow.{datagram_flow};
+ghost use Rattle.mt_packet.specs.Write.{checksum_offset};
 ghost use Rattle.mt_packet.specs.Ipv4.{is_readable, header_length, proto_of, src_of, dst_of, dscp_of, ecn_of, mf_of, frag_off_of, ttl_of, has_message, has_ports, sport_of, dport_of, icmp_type_of, tcp_flags_of, is_valid_ipv4, IsValidIpv4, ports_of, ip_ok_of, fin_of, syn_of, rst_of, ack_of};
 
 use crate::bytes::{four_bytes, two_bytes};
@@ -143,6 +144,21 @@ impl<'a> Datagram<'a> {
         self.tcp || self.udp
     }
 
+    /// The offset of the transport checksum.
+    #[tactic(auto, using(crate::proofs::Puts::checksum_within))]
+    pub fn checksum_offset(&self) -> usize
+        requires { has_ports self.now.datagram.now ≡ true }
+        ensures offset { result ≡ checksum_offset self.now.datagram.now }
+        ensures within { result + 1 < length self.now.datagram.now }
+    {
+        let header = header_bytes(self.datagram);
+        if self.protocol() == UDP {
+            header + 6
+        } else {
+            header + 16
+        }
+    }
+
     /// The source port, and 65,536 where no port is visible.
     #[tactic(auto, using(crate::proofs::Readable::ports_long), unfolding(crate::specs::Ipv4::sport_of))]
     pub fn source_port(&self) -> u64
@@ -175,13 +191,13 @@ impl<'a> Datagram<'a> {
         if !self.has_ports() {
             return None;
         }
-        let place = header_bytes(self.datagram);
+        let offset = header_bytes(self.datagram);
         Some(Flow {
             proto: self.protocol(),
             sa: self.source(),
-            sp: two_bytes(self.datagram, place),
+            sp: two_bytes(self.datagram, offset),
             da: self.destination(),
-            dp: two_bytes(self.datagram, place + 2),
+            dp: two_bytes(self.datagram, offset + 2),
         })
     }
 

@@ -41,7 +41,7 @@ impl Frame {
         self.bytes
     }
 
-    /// Puts the piece in at a place; the bytes from there on follow it. Where there is no memory for it,
+    /// Puts the piece in at an offset; the bytes from there on follow it. Where there is no memory for it,
     /// the frame stays as it was.
     pub fn insert(&mut self, at: usize, piece: &[u8]) -> Result<(), AllocError>
         requires { at ≤ length self.old }
@@ -53,7 +53,7 @@ impl Frame {
         Ok(())
     }
 
-    /// Takes bytes away from a place on.
+    /// Takes bytes away from an offset on.
     pub fn remove(&mut self, at: usize, count: usize)
         requires { at + count ≤ length self.old }
         ensures { self.new ≡ take at self.old ++ drop (at + count) self.old }

@@ -269,11 +269,11 @@ fn read(device: u32, frame: &[u8], datagram: &[u8], paint: u8, annotation: u32, 
     ensures value { result ≡ field_of (fields_of device frame.now datagram.now paint annotation) field }
     ensures range { result ≤ greatest_of field }
 {
-    read_at_place(device, frame, datagram, paint, annotation, field)
+    value_of(device, frame, datagram, paint, annotation, field)
 }
 
-/// The same, each field at its own place.
-fn read_at_place(
+/// The same, each field at its own offset.
+fn value_of(
     device: u32,
     frame: &[u8],
     datagram: &[u8],
@@ -347,12 +347,12 @@ fn trim(bytes: &mut Vec<u8>)
 }
 
 /// Writes an address of the IPv4 header behind the Ethernet header.
-fn write_address(bytes: &mut [u8], place: usize, value: u32)
+fn write_address(bytes: &mut [u8], offset: usize, value: u32)
     requires valid { IsValidIpv4 (drop 14 bytes.old) }
-    requires address { (place ≡ 12) ⊎ (place ≡ 16) }
-    ensures { bytes.new ≡ take 14 bytes.old ++ with_address (drop 14 bytes.old) place value }
+    requires address { (offset ≡ 12) ⊎ (offset ≡ 16) }
+    ensures { bytes.new ≡ take 14 bytes.old ++ with_address (drop 14 bytes.old) offset value }
 {
-    write::address(&mut bytes[ethernet::HEADER..], place, value);
+    write::address(&mut bytes[ethernet::HEADER..], offset, value);
 }
 
 /// Writes the code point of the IPv4 header behind the Ethernet header.
@@ -381,8 +381,8 @@ fn write_port(bytes: &mut [u8], at: usize, value: u16)
         in bytes.new ≡ take 14 bytes.old ++ with_port datagram (header_length datagram + at) value }
 {
     let datagram = &mut bytes[ethernet::HEADER..];
-    let place = header_bytes(datagram) + at;
-    write::port(datagram, place, value);
+    let offset = header_bytes(datagram) + at;
+    write::port(datagram, offset, value);
 }
 
 /// Gives the checksums of 65,535 their written form.

@@ -1,13 +1,13 @@
-//! Writing the fields of an IPv4 packet in place, with its checksums.
+//! Writing the fields of an IPv4 packet, with its checksums.
 ghost use Rattle.std.specs.Prelude.{◌≡◌, ◌⊎◌, ◌+◌, ◌%◌, ◌<◌, ◌≤◌, length, true};
 ghost use Rattle.mt_packet.specs.Checksum.{negative_of};
 ghost use Rattle.mt_packet.specs.Field.{two_bytes_at};
-ghost use Rattle.mt_packet.specs.Ipv4.{IsValidIpv4, header_length, has_ports};
-ghost use Rattle.mt_packet.specs.Write.{put_two, checksum_place, with_transport_checksum, with_address, with_port, with_dscp, with_ttl, with_header_zero, with_tcp_zero};
+ghost use Rattle.mt_packet.specs.Ipv4.{IsValidIpv4};
+ghost use Rattle.mt_packet.specs.Write.{put_two, with_transport_checksum, with_address, with_port, with_dscp, with_ttl, with_header_zero, with_tcp_zero};
 
 use crate::bytes::{two_bytes, write_four, write_two};
 use crate::checksum::{header_delta, transport_delta};
-use crate::datagram::{Datagram, TCP, UDP, header_bytes};
+use crate::datagram::{Datagram, TCP};
 
 /// Writes the time to live.
 #[tactic(auto, unfolding(crate::specs::Write::with_ttl))]
@@ -36,14 +36,14 @@ pub fn code_point(datagram: &mut [u8], value: u8)
 
 /// Writes an address of the header.
 #[tactic(auto, unfolding(crate::specs::Write::with_address))]
-pub fn address(datagram: &mut [u8], place: usize, value: u32)
+pub fn address(datagram: &mut [u8], offset: usize, value: u32)
     requires valid { IsValidIpv4 datagram.old }
-    requires address { (place ≡ 12) ⊎ (place ≡ 16) }
-    ensures { datagram.new ≡ with_address datagram.old place value }
+    requires address { (offset ≡ 12) ⊎ (offset ≡ 16) }
+    ensures { datagram.new ≡ with_address datagram.old offset value }
 {
-    let old = [two_bytes(datagram, place), two_bytes(datagram, place + 2)];
+    let old = [two_bytes(datagram, offset), two_bytes(datagram, offset + 2)];
     let new = [(value / 65_536) as u16, (value % 65_536) as u16];
-    write_four(datagram, place, value);
+    write_four(datagram, offset, value);
     mend_header_checksum(
         datagram,
         u32::from(old[0]) + u32::from(old[1]),
@@ -54,12 +54,12 @@ pub fn address(datagram: &mut [u8], place: usize, value: u32)
 
 /// Writes a port of the transport header.
 #[tactic(auto, unfolding(crate::specs::Write::with_port))]
-pub fn port(datagram: &mut [u8], place: usize, value: u16)
-    requires { place + 1 < length datagram.old }
-    ensures { datagram.new ≡ with_port datagram.old place value }
+pub fn port(datagram: &mut [u8], offset: usize, value: u16)
+    requires { offset + 1 < length datagram.old }
+    ensures { datagram.new ≡ with_port datagram.old offset value }
 {
-    let old = [two_bytes(datagram, place)];
-    write_two(datagram, place, value);
+    let old = [two_bytes(datagram, offset)];
+    write_two(datagram, offset, value);
     mend_transport_checksum(datagram, &old, &[value]);
 }
 
@@ -75,21 +75,6 @@ fn mend_header_checksum(datagram: &mut [u8], old: u32, new: u32)
     write_two(datagram, 10, mended);
 }
 
-/// The place of the transport checksum.
-#[tactic(auto, using(crate::proofs::Puts::checksum_within))]
-fn place_of_checksum(datagram: &[u8]) -> usize
-    requires { has_ports datagram.now ≡ true }
-    ensures place { result ≡ checksum_place datagram.now }
-    ensures within { result + 1 < length datagram.now }
-{
-    let header = header_bytes(datagram);
-    if Datagram::new(datagram).protocol() == UDP {
-        header + 6
-    } else {
-        header + 16
-    }
-}
-
 /// Changes the transport checksum by the words that were replaced.
 #[tactic(auto, unfolding(crate::specs::Write::with_transport_checksum))]
 fn mend_transport_checksum(datagram: &mut [u8], old: &[u16], new: &[u16])
@@ -99,9 +84,9 @@ fn mend_transport_checksum(datagram: &mut [u8], old: &[u16], new: &[u16])
     if !ip.has_ports() {
         return;
     }
-    let place = place_of_checksum(datagram);
-    let mended = transport_delta(ip.protocol(), two_bytes(datagram, place), old, new);
-    write_two(datagram, place, mended);
+    let offset = ip.checksum_offset();
+    let mended = transport_delta(ip.protocol(), two_bytes(datagram, offset), old, new);
+    write_two(datagram, offset, mended);
 }
 
 /// Writes a header checksum of 65,535 as 0.
@@ -124,8 +109,8 @@ pub fn write_tcp_zero(datagram: &mut [u8])
     if !ip.has_ports() || ip.protocol() != TCP {
         return;
     }
-    let place = place_of_checksum(datagram);
-    if two_bytes(datagram, place) == 0xFFFF {
-        write_two(datagram, place, 0);
+    let offset = ip.checksum_offset();
+    if two_bytes(datagram, offset) == 0xFFFF {
+        write_two(datagram, offset, 0);
     }
 }

@@ -5,5 +5,5 @@ use Rattle.mt_packet.proofs.checksum.ip_sum.Goals as goal
 
 pub returns : goal.returns
 returns c =
-    ones_complement-done c.loop-place.total c.args.bytes.now c.loop-place.place _ (omega arith) (omega arith)
-    c.loop-place.invariant.2
+    ones_complement-done c.loop-offset.total c.args.bytes.now c.loop-offset.offset _ (omega arith) (omega arith)
+    c.loop-offset.invariant.2

@@ -1,5 +1,5 @@
 -- proofs/field/index_of/Answers.antt
-use Rattle.std.proofs.Common.{◌≡◌, ◌∙◌, sym, ap, length, true, get_or, eqb, arith}
+use Rattle.std.proofs.Common.{◌≡◌, ◌∙◌, sym, length, true, get_or, arith}
 use Rattle.std.proofs.lemmas.Bool.Decides.{nat_tests}
 use Rattle.std.proofs.lemmas.List.Sums.{position_or_len_is}
 use Rattle.mt_packet.specs.Header.{is_field, number_of}

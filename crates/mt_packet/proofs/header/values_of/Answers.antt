@@ -11,4 +11,4 @@ pub returns-clause-ranges : goal.returns-clause-ranges
 returns-clause-ranges c =
     InRanges-along _ (fields_of c.args.device c.args.frame.now c.args.datagram.now c.args.paint c.args.annotation) (cc)
     (fields_of-in_ranges c.args.device c.args.frame.now c.args.datagram.now c.args.paint c.args.annotation (omega arith)
-    (λ place. omega (arith, c.type_inv.frame place)) (λ place. omega (arith, c.type_inv.datagram place)) (omega arith) (omega arith))
+    (λ offset. omega (arith, c.type_inv.frame offset)) (λ offset. omega (arith, c.type_inv.datagram offset)) (omega arith) (omega arith))

@@ -1,6 +1,5 @@
 -- proofs/packet/Packet/field/Answers.antt
 use Rattle.std.proofs.Common.{◌≡◌, ◌∙◌, drop, sym, ap}
-use Rattle.mt_packet.specs.Header.{field_of}
 use Rattle.mt_packet.specs.Packet.{datagram_of, frame_of}
 use Rattle.mt_packet.proofs.Views.{datagram_of-seen}
 use Rattle.mt_packet.proofs.packet.Packet.field.Goals as goal

@@ -8,5 +8,5 @@ pub returns : goal.returns
 unfolding with_address
 returns c =
     let small : c.args.value ≤ 4294967295 = omega arith in
-    let m = address-mended c.args.datagram.now c.args.place c.args.value c.requires.address c.requires.valid small in
+    let m = address-mended c.args.datagram.now c.args.offset c.args.value c.requires.address c.requires.valid small in
     cc

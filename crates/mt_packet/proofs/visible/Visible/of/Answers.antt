@@ -1,6 +1,6 @@
 -- proofs/visible/Visible/of/Answers.antt
 use Rattle.std.proofs.Common.{◌≡◌}
-use Rattle.mt_packet.specs.Header.{visible_of, InRanges}
+use Rattle.mt_packet.specs.Header.{visible_of}
 use Rattle.mt_packet.proofs.Ranges.{copied-same, copied-in_ranges}
 use Rattle.mt_packet.proofs.visible.Visible.of.Goals as goal
 
