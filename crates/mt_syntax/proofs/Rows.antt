@@ -1,7 +1,7 @@
 -- Texts with the tokens that they are, and lists of tokens that they are not.
 use Rattle.std.proofs.Common.{◌≡◌, ℕ, List, [], ◌∷◌, refl, sym, ◌∙◌, inr, arith}
 use Rattle.std.specs.Prelude.{codes}
-use Rattle.mt_syntax.specs.declared.token.Kind.TheVariants as kinds
+use Rattle.mt_syntax.specs.declared.token.TokenKind.TheVariants as kinds
 use Rattle.mt_syntax.specs.declared.token.Token.{Token}
 use Rattle.mt_syntax.specs.Comment.{comment_at, hidden}
 use Rattle.mt_syntax.specs.Closing.{closing}
@@ -11,8 +11,8 @@ use Rattle.mt_syntax.specs.Spelled.{AreTokens}
 use Rattle.mt_syntax.specs.Spelled.AreTokensBehind.{blank, next, finish}
 use Rattle.mt_syntax.specs.Spelled.RunsToClose.{ends}
 use Rattle.mt_syntax.specs.Spelled.IsPlain.{nothing, byte}
-use Rattle.mt_syntax.proofs.Slashes.{one_byte_no_close}
-use Rattle.mt_syntax.proofs.Only.{text_has_only}
+use Rattle.mt_syntax.proofs.CommentsSpelled.{one_byte_no_close}
+use Rattle.mt_syntax.proofs.TokensOnly.{text_has_only}
 
 -- a text has one list of tokens
 one_list : (text : List ℕ) (ts us : List Token) → AreTokens 0 text ts → AreTokens 0 text us → ts ≡ us

@@ -25,15 +25,15 @@ joined bytes gap b = if gap && not (length bytes == 0) then bytes ++ 32 ∷ b �
 abbrev pub tidy : List ℕ → List ℕ
 tidy text = tidy_after false text
 
--- a byte in front of the first part
+-- a byte in front of the first raw
 abbrev pub onto : ℕ → List (List ℕ) → List (List ℕ)
 onto b [] = (b ∷ []) ∷ []
-onto b (part ∷ parts) = (b ∷ part) ∷ parts
+onto b (raw ∷ raws) = (b ∷ raw) ∷ raws
 
 -- what stands between the commas outside parentheses
-unfoldable pub parts_of : ℕ → List ℕ → List (List ℕ)
-parts_of depth [] = [] ∷ []
-parts_of depth (b ∷ bs) = if b == 44 && depth == 0 then [] ∷ parts_of depth bs else onto b (parts_of (depth_after depth b) bs)
+unfoldable pub between_commas : ℕ → List ℕ → List (List ℕ)
+between_commas depth [] = [] ∷ []
+between_commas depth (b ∷ bs) = if b == 44 && depth == 0 then [] ∷ between_commas depth bs else onto b (between_commas (depth_after depth b) bs)
 
 unfoldable pub separated : List ℕ → List (List ℕ)
-separated text = if list_all is_white text then [] else map tidy (parts_of 0 text)
+separated text = if list_all is_white text then [] else map tidy (between_commas 0 text)

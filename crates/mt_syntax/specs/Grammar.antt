@@ -1,17 +1,17 @@
 -- The grammar as trees, each with its tokens: what is printed for a tree, when a tree is right, and the
--- parts that it is.
+-- phrases that it is.
 use Rattle.std.specs.Prelude.{◌≡◌, ℕ, List, [], ◌∷◌, ◌++◌, Option, Some, None, IfSome}
 use Rattle.std.specs.Option.{option_map, option_to_list}
-use Rattle.mt_syntax.specs.declared.token.Kind.{Kind}
-use Rattle.mt_syntax.specs.declared.token.Kind.TheVariants as kinds
+use Rattle.mt_syntax.specs.declared.token.TokenKind.{TokenKind}
+use Rattle.mt_syntax.specs.declared.token.TokenKind.TheVariants as kinds
 use Rattle.mt_syntax.specs.declared.token.Token.{Token}
-use Rattle.mt_syntax.specs.declared.part.Use.{Use}
-use Rattle.mt_syntax.specs.declared.part.Port.{Port}
-use Rattle.mt_syntax.specs.declared.part.End.{End}
-use Rattle.mt_syntax.specs.declared.part.Item.{Item}
-use Rattle.mt_syntax.specs.declared.part.Item.TheVariants as items
-use Rattle.mt_syntax.specs.declared.part.Part.{Part}
-use Rattle.mt_syntax.specs.declared.part.Part.TheVariants as parts
+use Rattle.mt_syntax.specs.declared.phrase.Use.{Use}
+use Rattle.mt_syntax.specs.declared.phrase.PortNumber.{PortNumber}
+use Rattle.mt_syntax.specs.declared.phrase.Endpoint.{Endpoint}
+use Rattle.mt_syntax.specs.declared.phrase.Item.{Item}
+use Rattle.mt_syntax.specs.declared.phrase.Item.TheVariants as items
+use Rattle.mt_syntax.specs.declared.phrase.Phrase.{Phrase}
+use Rattle.mt_syntax.specs.declared.phrase.Phrase.TheVariants as phrases
 use Rattle.mt_syntax.specs.Reading.{word}
 
 -- use = NAME [ "(" arguments ")" ]
@@ -42,7 +42,7 @@ print_port (Some p) = p.left ∷ p.number ∷ p.right ∷ []
 abbrev pub IsPort : PortTree → Type 0
 IsPort p = (p.left.kind ≡ kinds.LeftBracket) × (p.number.kind ≡ kinds.Number p.value) × (p.right.kind ≡ kinds.RightBracket)
 
-abbrev pub port_of : PortTree → Port
+abbrev pub port_of : PortTree → PortNumber
 port_of p = record { at = p.left.from; number = p.value }
 
 -- item = NAME | NAME "::" use | use, where the use of the last has arguments
@@ -67,63 +67,63 @@ item_of (named t c u) = items.Declared (word t) (use_of u)
 item_of (made t a) = items.Made (record { class = word t; arguments = Some (word a) })
 
 -- end = [ "[" NUMBER "]" ] item [ "[" NUMBER "]" ]
-pub record EndTree : Type 0 where
+pub record EndpointTree : Type 0 where
   pub input : Option PortTree
   pub item : ItemTree
   pub output : Option PortTree
 
-abbrev pub print_end : EndTree → List Token
-print_end e = print_port e.input ++ (print_item e.item ++ print_port e.output)
+abbrev pub print_endpoint : EndpointTree → List Token
+print_endpoint e = print_port e.input ++ (print_item e.item ++ print_port e.output)
 
-abbrev pub IsEnd : EndTree → Type 0
-IsEnd e = IfSome e.input IsPort × IsItem e.item × IfSome e.output IsPort
+abbrev pub IsEndpoint : EndpointTree → Type 0
+IsEndpoint e = IfSome e.input IsPort × IsItem e.item × IfSome e.output IsPort
 
-abbrev pub end_of : EndTree → End
-end_of e = record { input = option_map port_of e.input; item = item_of e.item; output = option_map port_of e.output }
+abbrev pub endpoint_of : EndpointTree → Endpoint
+endpoint_of e = record { input = option_map port_of e.input; item = item_of e.item; output = option_map port_of e.output }
 
 -- connect = end { "->" end }: a first end without an input port, then each `->` with the end behind it,
 -- of which the last has no output port
-abbrev pub print_ends : EndTree → List (Token × EndTree) → List Token
-print_ends e [] = print_end e
-print_ends e (next ∷ more) = print_end e ++ (next.0 ∷ print_ends next.1 more)
+abbrev pub print_endpoints : EndpointTree → List (Token × EndpointTree) → List Token
+print_endpoints e [] = print_endpoint e
+print_endpoints e (next ∷ more) = print_endpoint e ++ (next.0 ∷ print_endpoints next.1 more)
 
-abbrev pub AreEnds : EndTree → List (Token × EndTree) → Type 0
-AreEnds e [] = IsEnd e × (e.output ≡ None)
-AreEnds e (next ∷ more) = IsEnd e × (next.0.kind ≡ kinds.Arrow) × AreEnds next.1 more
+abbrev pub AreEndpoints : EndpointTree → List (Token × EndpointTree) → Type 0
+AreEndpoints e [] = IsEndpoint e × (e.output ≡ None)
+AreEndpoints e (next ∷ more) = IsEndpoint e × (next.0.kind ≡ kinds.Arrow) × AreEndpoints next.1 more
 
-abbrev pub next_ends : List (Token × EndTree) → List Part
-next_ends [] = []
-next_ends (next ∷ more) = parts.Next next.0.from (end_of next.1) ∷ next_ends more
+abbrev pub next_endpoints : List (Token × EndpointTree) → List Phrase
+next_endpoints [] = []
+next_endpoints (next ∷ more) = phrases.Next next.0.from (endpoint_of next.1) ∷ next_endpoints more
 
 -- { "," NAME }
 abbrev pub print_more : List (Token × Token) → List Token
 print_more [] = []
 print_more (next ∷ more) = next.0 ∷ next.1 ∷ print_more more
 
-abbrev pub AreMore : Kind → List (Token × Token) → Type 0
+abbrev pub AreMore : TokenKind → List (Token × Token) → Type 0
 AreMore kind [] = Unit {0}
 AreMore kind (next ∷ more) = (next.0.kind ≡ kinds.Comma) × (next.1.kind ≡ kind) × AreMore kind more
 
-abbrev pub more_names : List (Token × Token) → List Part
+abbrev pub more_names : List (Token × Token) → List Phrase
 more_names [] = []
-more_names (next ∷ more) = parts.Declared (word next.1) ∷ more_names more
+more_names (next ∷ more) = phrases.Declared (word next.1) ∷ more_names more
 
 -- declare = NAME "," NAME { "," NAME } "::" use
 pub data StatementTree : Type 0 where
-  connect : EndTree → List (Token × EndTree) → StatementTree
+  connect : EndpointTree → List (Token × EndpointTree) → StatementTree
   declare : Token → Token × Token → List (Token × Token) → Token → UseTree → StatementTree
 
 abbrev pub print_statement : StatementTree → List Token
-print_statement (connect e more) = print_ends e more
+print_statement (connect e more) = print_endpoints e more
 print_statement (declare first next more colons last) = first ∷ (print_more (next ∷ more) ++ (colons ∷ print_use last))
 
 abbrev pub IsStatement : StatementTree → Type 0
-IsStatement (connect e more) = (e.input ≡ None) × AreEnds e more
+IsStatement (connect e more) = (e.input ≡ None) × AreEndpoints e more
 IsStatement (declare first next more colons last) = (first.kind ≡ kinds.Name) × AreMore kinds.Name (next ∷ more) × (colons.kind ≡ kinds.Colons) × IsUse last
 
-abbrev pub statement_parts : StatementTree → List Part
-statement_parts (connect e more) = parts.First (end_of e) ∷ next_ends more
-statement_parts (declare first next more colons last) = parts.Declared (word first) ∷ (more_names (next ∷ more) ++ parts.Made (use_of last) ∷ [])
+abbrev pub statement_phrases : StatementTree → List Phrase
+statement_phrases (connect e more) = phrases.First (endpoint_of e) ∷ next_endpoints more
+statement_phrases (declare first next more colons last) = phrases.Declared (word first) ∷ (more_names (next ∷ more) ++ phrases.Made (use_of last) ∷ [])
 
 -- body = [ inner ] { ";" [ inner ] }: statements and `;`, one `;` at least between two statements
 pub data InnerTree : Type 0 where
@@ -144,10 +144,10 @@ IsBody [] = Unit {0}
 IsBody (sign t ∷ us) = (t.kind ≡ kinds.Semicolon) × IsBody us
 IsBody (plain s ∷ us) = IsStatement s × IsApart us × IsBody us
 
-abbrev pub body_parts : List InnerTree → List Part
-body_parts [] = []
-body_parts (sign t ∷ us) = body_parts us
-body_parts (plain s ∷ us) = statement_parts s ++ body_parts us
+abbrev pub body_phrases : List InnerTree → List Phrase
+body_phrases [] = []
+body_phrases (sign t ∷ us) = body_phrases us
+body_phrases (plain s ∷ us) = statement_phrases s ++ body_phrases us
 
 -- PARAM { "," PARAM } "|"
 pub record ParameterTree : Type 0 where
@@ -162,13 +162,13 @@ print_parameters (Some p) = p.first ∷ (print_more p.more ++ (p.bar ∷ []))
 abbrev pub AreParameters : ParameterTree → Type 0
 AreParameters p = (p.first.kind ≡ kinds.Parameter) × AreMore kinds.Parameter p.more × (p.bar.kind ≡ kinds.Bar)
 
-abbrev pub more_parameters : List (Token × Token) → List Part
+abbrev pub more_parameters : List (Token × Token) → List Phrase
 more_parameters [] = []
-more_parameters (next ∷ more) = parts.Parameter (word next.1) ∷ more_parameters more
+more_parameters (next ∷ more) = phrases.Parameter (word next.1) ∷ more_parameters more
 
-abbrev pub parameter_parts : Option ParameterTree → List Part
-parameter_parts None = []
-parameter_parts (Some p) = parts.Parameter (word p.first) ∷ more_parameters p.more
+abbrev pub parameter_phrases : Option ParameterTree → List Phrase
+parameter_phrases None = []
+parameter_phrases (Some p) = phrases.Parameter (word p.first) ∷ more_parameters p.more
 
 -- class = "elementclass" NAME "{" [ PARAM { "," PARAM } "|" ] body "}"
 pub record ClassTree : Type 0 where
@@ -186,8 +186,8 @@ abbrev pub IsClass : ClassTree → Type 0
 IsClass c =
     (c.keyword.kind ≡ kinds.Keyword) × (c.name.kind ≡ kinds.Name) × (c.left.kind ≡ kinds.LeftBrace) × IfSome c.parameters AreParameters × IsBody c.body × (c.right.kind ≡ kinds.RightBrace)
 
-abbrev pub class_parts : ClassTree → List Part
-class_parts c = parts.Class (word c.name) ∷ (parameter_parts c.parameters ++ (body_parts c.body ++ (parts.Close ∷ [])))
+abbrev pub class_phrases : ClassTree → List Phrase
+class_phrases c = phrases.Class (word c.name) ∷ (parameter_phrases c.parameters ++ (body_phrases c.body ++ (phrases.Close ∷ [])))
 
 -- config = [ statement ] { ";" [ statement ] }, where the `;` behind a class may be left out
 pub data OuterTree : Type 0 where
@@ -211,11 +211,11 @@ IsConfig (outer (sign t) ∷ us) = (t.kind ≡ kinds.Semicolon) × IsConfig us
 IsConfig (outer (plain s) ∷ us) = IsStatement s × IsSeparate us × IsConfig us
 IsConfig (class c ∷ us) = IsClass c × IsConfig us
 
-abbrev pub config_parts : List OuterTree → List Part
-config_parts [] = []
-config_parts (outer (sign t) ∷ us) = config_parts us
-config_parts (outer (plain s) ∷ us) = statement_parts s ++ config_parts us
-config_parts (class c ∷ us) = class_parts c ++ config_parts us
+abbrev pub config_phrases : List OuterTree → List Phrase
+config_phrases [] = []
+config_phrases (outer (sign t) ∷ us) = config_phrases us
+config_phrases (outer (plain s) ∷ us) = statement_phrases s ++ config_phrases us
+config_phrases (class c ∷ us) = class_phrases c ++ config_phrases us
 
 -- the tokens of a whole text
 abbrev pub ArePrinted : List OuterTree → List Token → Type 0

@@ -5,7 +5,7 @@ pub mod Piece
 pub mod Tokens
 pub mod Arguments
 pub mod Reading
-pub mod Place
+pub mod Position
 pub mod Replacing
 pub mod Spelled
 pub mod Grammar

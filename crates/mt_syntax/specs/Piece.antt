@@ -3,8 +3,8 @@ use Rattle.std.specs.Prelude.{ℕ, ◌+◌, ◌-◌, ◌*◌, ◌≤◌, min, Li
 use Rattle.std.specs.List.{prefix_len}
 use Rattle.std.specs.Str.{bytes_eq}
 use Rattle.mt_syntax.specs.declared.comment.Comment.TheVariants.{Absent, Closed, Open}
-use Rattle.mt_syntax.specs.declared.token.Kind.{Kind}
-use Rattle.mt_syntax.specs.declared.token.Kind.TheVariants as kinds
+use Rattle.mt_syntax.specs.declared.token.TokenKind.{TokenKind}
+use Rattle.mt_syntax.specs.declared.token.TokenKind.TheVariants as kinds
 use Rattle.mt_syntax.specs.declared.piece.Piece.{Piece}
 use Rattle.mt_syntax.specs.declared.piece.Piece.TheVariants.{Blank, Taken, Wrong}
 use Rattle.mt_syntax.specs.Byte.{is_white, is_letter, is_digit, is_name_byte}
@@ -44,7 +44,7 @@ unfoldable pub arguments_at : List ℕ → Piece
 arguments_at bytes = arguments_to (closing 0 (bare (drop 1 bytes))) (plain_len (bare (drop 1 bytes)))
 
 -- `::` and `->`
-unfoldable pub pair_at : ℕ → Kind → List ℕ → Piece
+unfoldable pub pair_at : ℕ → TokenKind → List ℕ → Piece
 pair_at second kind bytes = if nat_lt 1 (length bytes) && slice_index bytes 1 == second then Taken kind 2 else Wrong
 
 -- the tokens of one byte

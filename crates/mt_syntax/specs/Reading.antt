@@ -1,4 +1,4 @@
--- Reading the parts of a configuration from its tokens. Each reader answers what it read and the tokens
+-- Reading the phrases of a configuration from its tokens. Each reader answers what it read and the tokens
 -- behind it, or the fault of the first token that may not stand where it stands.
 --
 --   config    = [ statement ] { ";" [ statement ] }
@@ -17,25 +17,25 @@
 use Rattle.std.specs.Prelude.{◌≡◌, ℕ, zero, suc, ◌<◌, List, [], ◌∷◌, ◌++◌, length, Option, Some, None, is_some, Result, Ok, Err, Bool, true, false, if◌then◌else◌}
 use Rattle.std.specs.Option.{option_map, option_to_list}
 use denote.Ref.{Bor}
-use Rattle.mt_syntax.specs.declared.token.Kind.{Kind}
-use Rattle.mt_syntax.specs.declared.token.Kind.TheVariants as kinds
+use Rattle.mt_syntax.specs.declared.token.TokenKind.{TokenKind}
+use Rattle.mt_syntax.specs.declared.token.TokenKind.TheVariants as kinds
 use Rattle.mt_syntax.specs.declared.token.Token.{Token}
 use Rattle.mt_syntax.specs.declared.fault.ClickWhy.TheVariants as whys
 use Rattle.mt_syntax.specs.declared.fault.ClickWhy.{ClickWhy}
 use Rattle.mt_syntax.specs.declared.fault.Fault.{Fault}
 use Rattle.mt_syntax.specs.declared.fault.ReadError.{ReadError}
 use Rattle.mt_syntax.specs.declared.fault.ReadError.TheVariants as errors
-use Rattle.mt_syntax.specs.declared.part.Word.{Word}
-use Rattle.mt_syntax.specs.declared.part.Use.{Use}
-use Rattle.mt_syntax.specs.declared.part.Port.{Port}
-use Rattle.mt_syntax.specs.declared.part.End.{End}
-use Rattle.mt_syntax.specs.declared.part.Item.{Item}
-use Rattle.mt_syntax.specs.declared.part.Item.TheVariants as items
-use Rattle.mt_syntax.specs.declared.part.Part.{Part}
-use Rattle.mt_syntax.specs.declared.part.Part.TheVariants as parts
-use Rattle.mt_syntax.specs.declared.moves.Stage.{Stage}
-use Rattle.mt_syntax.specs.declared.moves.Stage.TheVariants as stages
-use Rattle.mt_syntax.specs.declared.moves.Step.{Step}
+use Rattle.mt_syntax.specs.declared.word.Word.{Word}
+use Rattle.mt_syntax.specs.declared.phrase.Use.{Use}
+use Rattle.mt_syntax.specs.declared.phrase.PortNumber.{PortNumber}
+use Rattle.mt_syntax.specs.declared.phrase.Endpoint.{Endpoint}
+use Rattle.mt_syntax.specs.declared.phrase.Item.{Item}
+use Rattle.mt_syntax.specs.declared.phrase.Item.TheVariants as items
+use Rattle.mt_syntax.specs.declared.phrase.Phrase.{Phrase}
+use Rattle.mt_syntax.specs.declared.phrase.Phrase.TheVariants as phrases
+use Rattle.mt_syntax.specs.declared.advance.Stage.{Stage}
+use Rattle.mt_syntax.specs.declared.advance.Stage.TheVariants as stages
+use Rattle.mt_syntax.specs.declared.advance.Advance.{Advance}
 use Rattle.mt_syntax.specs.Tokens.{tokens_in}
 
 infixl 10 ◌>>=◌
@@ -52,7 +52,7 @@ abbrev pub word : Token → Word
 word t = record { from = t.from; to = t.to }
 
 -- A place at which the text has no token, or an argument text that may not open there, is Lex.
-abbrev pub why_of : Kind → ClickWhy
+abbrev pub why_of : TokenKind → ClickWhy
 why_of kinds.Broken = whys.Lex
 why_of kinds.Arguments = whys.Lex
 why_of _ = whys.Syntax
@@ -88,14 +88,14 @@ read_right [] = Err (no_token [])
 read_right (t ∷ ts) = elim t.kind [ kinds.RightBracket ↦ Ok ts | _ ↦ Err (fault_at t) ]
 
 -- the number and the `]` of a port, of which the `[` stands at a place
-unfoldable pub read_inner : ℕ → List Token → Result (Option Port × List Token) Fault
+unfoldable pub read_inner : ℕ → List Token → Result (Option PortNumber × List Token) Fault
 read_inner at tokens = do
   number ← read_number tokens
   rest ← read_right number.1
   Ok (Some (record { at = at; number = number.0 }), rest)
 
 -- [ "[" NUMBER "]" ]
-unfoldable pub read_port : List Token → Result (Option Port × List Token) Fault
+unfoldable pub read_port : List Token → Result (Option PortNumber × List Token) Fault
 read_port [] = Ok (None, [])
 read_port (t ∷ ts) = elim t.kind [ kinds.LeftBracket ↦ read_inner t.from ts | _ ↦ Ok (None, t ∷ ts) ]
 
@@ -119,90 +119,90 @@ read_item tokens = do
   read_behind name.0 name.1
 
 -- an end behind its input port
-unfoldable pub read_end : Option Port → List Token → Result (End × List Token) Fault
-read_end input tokens = do
+unfoldable pub read_endpoint : Option PortNumber → List Token → Result (Endpoint × List Token) Fault
+read_endpoint input tokens = do
   item ← read_item tokens
   output ← read_port item.1
   Ok (record { input = input; item = item.0; output = output.0 }, output.1)
 
 -- end = [ "[" NUMBER "]" ] item [ "[" NUMBER "]" ]
-unfoldable pub read_whole_end : List Token → Result (End × List Token) Fault
-read_whole_end tokens = do
+unfoldable pub read_whole_endpoint : List Token → Result (Endpoint × List Token) Fault
+read_whole_endpoint tokens = do
   input ← read_port tokens
-  read_end input.0 input.1
+  read_endpoint input.0 input.1
 
--- a part, what may stand behind it, and whether that is in the body of a class
-abbrev pub told : Part → Stage → Bool → Step
-told part stage inside = record { part = Some part; stage = stage; inside = inside }
+-- a phrase, what may stand behind it, and whether that is in the body of a class
+abbrev pub told : Phrase → Stage → Bool → Advance
+told phrase stage inside = record { phrase = Some phrase; stage = stage; inside = inside }
 
--- no part: a sign that separates parts
-abbrev pub quiet : Stage → Bool → Step
-quiet stage inside = record { part = None; stage = stage; inside = inside }
+-- no phrase: a sign that separates phrases
+abbrev pub quiet : Stage → Bool → Advance
+quiet stage inside = record { phrase = None; stage = stage; inside = inside }
 
 -- reading goes on with fewer tokens
-abbrev pub IsShorter : List Token → Option (Step × List Token) → Type 0
+abbrev pub IsShorter : List Token → Option (Advance × List Token) → Type 0
 IsShorter tokens None = Unit {0}
 IsShorter tokens (Some x) = length x.1 < length tokens
 
 -- What stands next, or nothing at the end of the text.
-abbrev pub Move : Type 0
-Move = Result (Option (Step × List Token)) Fault
+abbrev pub Advanced : Type 0
+Advanced = Result (Option (Advance × List Token)) Fault
 
 -- What a function returned is what reading gives.
-abbrev pub seen : Option (Step × Bor (List Token)) → Option (Step × List Token)
+abbrev pub seen : Option (Advance × Bor (List Token)) → Option (Advance × List Token)
 seen o = option_map (λ x. (x.0, x.1.now)) o
 
-abbrev pub Moves : Result (Option (Step × Bor (List Token))) Fault → Move → Type 0
-Moves result read = Reads seen result read
+abbrev pub Advances : Result (Option (Advance × Bor (List Token))) Fault → Advanced → Type 0
+Advances result read = Reads seen result read
 
-abbrev pub onward : Step → List Token → Move
+abbrev pub onward : Advance → List Token → Advanced
 onward s tokens = Ok (Some (s, tokens))
 
 -- the end of a statement: `;`, the end of the body or the end of the text
-unfoldable pub read_done : Bool → List Token → Move
+unfoldable pub read_done : Bool → List Token → Advanced
 read_done inside [] = Err (no_token [])
 read_done inside (t ∷ ts) = elim t.kind [
   | kinds.Semicolon ↦ onward (quiet stages.Begin inside) ts
-  | kinds.RightBrace ↦ if inside then onward (told parts.Close stages.Begin false) ts else Err (fault_at t)
+  | kinds.RightBrace ↦ if inside then onward (told phrases.Close stages.Begin false) ts else Err (fault_at t)
   | kinds.Finish ↦ if inside then Err (fault_at t) else Ok None
   | _ ↦ Err (fault_at t)
 ]
 
-abbrev pub has_port : End → Bool
+abbrev pub has_port : Endpoint → Bool
 has_port e = is_some e.output
 
 -- the first end of a connection has no input port
-unfoldable pub read_first : Bool → List Token → Move
+unfoldable pub read_first : Bool → List Token → Advanced
 read_first inside tokens = do
-  found ← read_end None tokens
-  onward (told (parts.First found.0) (stages.Ended (has_port found.0)) inside) found.1
+  found ← read_endpoint None tokens
+  onward (told (phrases.First found.0) (stages.Ended (has_port found.0)) inside) found.1
 
-unfoldable pub read_next : ℕ → Bool → List Token → Move
+unfoldable pub read_next : ℕ → Bool → List Token → Advanced
 read_next arrow inside tokens = do
-  found ← read_whole_end tokens
-  onward (told (parts.Next arrow found.0) (stages.Ended (has_port found.0)) inside) found.1
+  found ← read_whole_endpoint tokens
+  onward (told (phrases.Next arrow found.0) (stages.Ended (has_port found.0)) inside) found.1
 
 -- declare = NAME "," NAME { "," NAME } "::" use, where a comma stands behind the first name
 abbrev pub is_comma : List Token → Bool
 is_comma [] = false
 is_comma (t ∷ ts) = elim t.kind [ kinds.Comma ↦ true | _ ↦ false ]
 
-unfoldable pub read_names : Bool → List Token → Move
+unfoldable pub read_names : Bool → List Token → Advanced
 read_names inside tokens = do
   name ← read_name tokens
-  if is_comma name.1 then onward (told (parts.Declared name.0) stages.Names inside) name.1 else read_first inside tokens
+  if is_comma name.1 then onward (told (phrases.Declared name.0) stages.Names inside) name.1 else read_first inside tokens
 
-unfoldable pub read_name_more : Bool → List Token → Move
+unfoldable pub read_name_more : Bool → List Token → Advanced
 read_name_more inside tokens = do
   name ← read_name tokens
-  onward (told (parts.Declared name.0) stages.Names inside) name.1
+  onward (told (phrases.Declared name.0) stages.Names inside) name.1
 
-unfoldable pub read_made : Bool → List Token → Move
+unfoldable pub read_made : Bool → List Token → Advanced
 read_made inside tokens = do
   made ← read_use tokens
-  onward (told (parts.Made made.0) stages.Done inside) made.1
+  onward (told (phrases.Made made.0) stages.Done inside) made.1
 
-unfoldable pub read_after_name : Bool → List Token → Move
+unfoldable pub read_after_name : Bool → List Token → Advanced
 read_after_name inside [] = Err (no_token [])
 read_after_name inside (t ∷ ts) = elim t.kind [
   | kinds.Comma ↦ read_name_more inside ts
@@ -215,14 +215,14 @@ unfoldable pub read_left : List Token → Result (List Token) Fault
 read_left [] = Err (no_token [])
 read_left (t ∷ ts) = elim t.kind [ kinds.LeftBrace ↦ Ok ts | _ ↦ Err (fault_at t) ]
 
-unfoldable pub read_class : List Token → Move
+unfoldable pub read_class : List Token → Advanced
 read_class tokens = do
   name ← read_name tokens
   rest ← read_left name.1
-  onward (told (parts.Class name.0) stages.Head true) rest
+  onward (told (phrases.Class name.0) stages.Head true) rest
 
 -- a statement, which may be empty; a class only outside classes
-unfoldable pub read_begin : Bool → List Token → Move
+unfoldable pub read_begin : Bool → List Token → Advanced
 read_begin inside [] = Err (no_token [])
 read_begin inside (t ∷ ts) = elim t.kind [
   | kinds.Name ↦ read_names inside (t ∷ ts)
@@ -231,21 +231,21 @@ read_begin inside (t ∷ ts) = elim t.kind [
 ]
 
 -- connect = end { "->" end }, of which the last has no output port
-unfoldable pub read_after_end : Bool → Bool → List Token → Move
-read_after_end port inside [] = Err (no_token [])
-read_after_end port inside (t ∷ ts) = elim t.kind [
+unfoldable pub read_after_endpoint : Bool → Bool → List Token → Advanced
+read_after_endpoint port inside [] = Err (no_token [])
+read_after_endpoint port inside (t ∷ ts) = elim t.kind [
   | kinds.Arrow ↦ read_next t.from inside ts
   | _ ↦ if port then Err (fault_at t) else read_done inside (t ∷ ts)
 ]
 
-unfoldable pub read_parameter : List Token → Move
+unfoldable pub read_parameter : List Token → Advanced
 read_parameter [] = Err (no_token [])
 read_parameter (t ∷ ts) = elim t.kind [
-  | kinds.Parameter ↦ onward (told (parts.Parameter (word t)) stages.Parameters true) ts
+  | kinds.Parameter ↦ onward (told (phrases.Parameter (word t)) stages.Parameters true) ts
   | _ ↦ Err (fault_at t)
 ]
 
-unfoldable pub read_after_parameter : List Token → Move
+unfoldable pub read_after_parameter : List Token → Advanced
 read_after_parameter [] = Err (no_token [])
 read_after_parameter (t ∷ ts) = elim t.kind [
   | kinds.Comma ↦ read_parameter ts
@@ -253,34 +253,34 @@ read_after_parameter (t ∷ ts) = elim t.kind [
   | _ ↦ Err (fault_at t)
 ]
 
-unfoldable pub read_head : List Token → Move
+unfoldable pub read_head : List Token → Advanced
 read_head [] = Err (no_token [])
 read_head (t ∷ ts) = elim t.kind [
   | kinds.Parameter ↦ read_parameter (t ∷ ts)
   | _ ↦ read_begin true (t ∷ ts)
 ]
 
-unfoldable pub read_move : Stage → Bool → List Token → Move
-read_move stages.Begin inside tokens = read_begin inside tokens
-read_move stages.Done inside tokens = read_done inside tokens
-read_move (stages.Ended port) inside tokens = read_after_end port inside tokens
-read_move stages.Names inside tokens = read_after_name inside tokens
-read_move stages.Head inside tokens = read_head tokens
-read_move stages.Parameters inside tokens = read_after_parameter tokens
+unfoldable pub read_advance : Stage → Bool → List Token → Advanced
+read_advance stages.Begin inside tokens = read_begin inside tokens
+read_advance stages.Done inside tokens = read_done inside tokens
+read_advance (stages.Ended port) inside tokens = read_after_endpoint port inside tokens
+read_advance stages.Names inside tokens = read_after_name inside tokens
+read_advance stages.Head inside tokens = read_head tokens
+read_advance stages.Parameters inside tokens = read_after_parameter tokens
 
--- the parts from a stage on, in at most so many moves
-unfoldable pub parts_from : ℕ → Stage → Bool → List Token → Result (List Part) Fault
-parts_from zero stage inside tokens = Err (no_token [])
-parts_from (suc most) stage inside tokens = do
-  move ← read_move stage inside tokens
-  elim move as (λ _. Result (List Part) Fault) [
+-- the phrases from a stage on, in at most so many advances
+unfoldable pub phrases_from : ℕ → Stage → Bool → List Token → Result (List Phrase) Fault
+phrases_from zero stage inside tokens = Err (no_token [])
+phrases_from (suc most) stage inside tokens = do
+  advance ← read_advance stage inside tokens
+  elim advance as (λ _. Result (List Phrase) Fault) [
     | None ↦ Ok []
-    | Some x ↦ parts_from most x.0.stage x.0.inside x.1 >>= λ ps. Ok (option_to_list x.0.part ++ ps)
+    | Some x ↦ phrases_from most x.0.stage x.0.inside x.1 >>= λ ps. Ok (option_to_list x.0.phrase ++ ps)
   ]
 
--- The parts of a list of tokens, each move of which takes a token at least.
-abbrev pub parts_of_tokens : List Token → Result (List Part) Fault
-parts_of_tokens tokens = parts_from (length tokens) stages.Begin false tokens
+-- The phrases of a list of tokens, each advance of which takes a token at least.
+abbrev pub phrases_of_tokens : List Token → Result (List Phrase) Fault
+phrases_of_tokens tokens = phrases_from (length tokens) stages.Begin false tokens
 
 -- What a function returned, seen by view, is what reading gives, unless memory ran out.
 abbrev pub Fails : {Y : Type 0} → ReadError → Result Y Fault → Type 0
@@ -291,6 +291,6 @@ abbrev pub Gives : {X Y : Type 0} → (X → Y) → Result X ReadError → Resul
 Gives view (Ok x) read = read ≡ Ok (view x)
 Gives view (Err e) read = Fails e read
 
--- the parts of a text, or its first fault
-abbrev pub parts_in : List ℕ → Result (List Part) Fault
-parts_in text = parts_of_tokens (tokens_in text)
+-- the phrases of a text, or its first fault
+abbrev pub phrases_in : List ℕ → Result (List Phrase) Fault
+phrases_in text = phrases_of_tokens (tokens_in text)

@@ -1,8 +1,8 @@
 -- A text as its tokens, with white space and comments before each. Each text has one list of tokens.
 use Rattle.std.specs.Prelude.{◌≡◌, ◌⊎◌, ℕ, suc, ◌+◌, ◌<◌, ◌≤◌, List, [], ◌∷◌, ◌++◌, length, codes, Bool, false, not, IsTrue}
 use Rattle.std.specs.List.{AllByRecursion}
-use Rattle.mt_syntax.specs.declared.token.Kind.{Kind}
-use Rattle.mt_syntax.specs.declared.token.Kind.TheVariants as kinds
+use Rattle.mt_syntax.specs.declared.token.TokenKind.{TokenKind}
+use Rattle.mt_syntax.specs.declared.token.TokenKind.TheVariants as kinds
 use Rattle.mt_syntax.specs.declared.token.Token.{Token}
 use Rattle.mt_syntax.specs.Byte.{is_white, is_letter, is_digit, is_name_byte}
 use Rattle.mt_syntax.specs.Piece.{number_of}
@@ -85,7 +85,7 @@ abbrev pub IsNumber : List ℕ → List ℕ → Type 0
 IsNumber bytes rest = (0 < length bytes) × (length bytes ≤ 9) × AllByRecursion (λ c. IsTrue (is_digit c)) bytes × (length bytes < 9 → Stops is_digit rest)
 
 -- The bytes of a token, and what stands behind it. An argument text may stand only behind a name, `named`.
-abbrev pub IsToken : Bool → Kind → List ℕ → List ℕ → Type 0
+abbrev pub IsToken : Bool → TokenKind → List ℕ → List ℕ → Type 0
 IsToken named kinds.Name bytes rest = IsWord bytes rest × (bytes ≡ codes "elementclass" → ⊥)
 IsToken named kinds.Keyword bytes rest = IsWord bytes rest × (bytes ≡ codes "elementclass")
 IsToken named (kinds.Number n) bytes rest = IsNumber bytes rest × (n ≡ number_of bytes)
@@ -108,13 +108,13 @@ abbrev pub BeginsNothing : Bool → List ℕ → Type 0
 BeginsNothing named bytes =
     (bytes ≡ [] → ⊥)
     × ((front rest : List ℕ) → bytes ≡ front ++ rest → IsBlank front rest → ⊥)
-    × ((kind : Kind) (body rest : List ℕ) → bytes ≡ body ++ rest → IsToken named kind body rest → ⊥)
+    × ((kind : TokenKind) (body rest : List ℕ) → bytes ≡ body ++ rest → IsToken named kind body rest → ⊥)
 
 -- The text from a place on is these tokens; `named` says that a name stands before. The last token is the end
 -- of the text, or the first place at which the text has no token.
 pub data AreTokensBehind : Bool → ℕ → List ℕ → List Token → Type 0 where
   blank : (named : Bool) (at : ℕ) (front rest : List ℕ) (ts : List Token) → IsBlank front rest → AreTokensBehind named (at + length front) rest ts → AreTokensBehind named at (front ++ rest) ts
-  next : (named : Bool) (at : ℕ) (kind : Kind) (body rest : List ℕ) (ts : List Token) → IsToken named kind body rest → AreTokensBehind (is_name kind) (at + length body) rest ts → AreTokensBehind named at (body ++ rest) (token kind at (at + length body) ∷ ts)
+  next : (named : Bool) (at : ℕ) (kind : TokenKind) (body rest : List ℕ) (ts : List Token) → IsToken named kind body rest → AreTokensBehind (is_name kind) (at + length body) rest ts → AreTokensBehind named at (body ++ rest) (token kind at (at + length body) ∷ ts)
   broken : (named : Bool) (at : ℕ) (bytes : List ℕ) → BeginsNothing named bytes → AreTokensBehind named at bytes (token kinds.Broken at at ∷ [])
   finish : (named : Bool) (at : ℕ) → AreTokensBehind named at [] (token kinds.Finish at at ∷ [])
 

@@ -1,14 +1,14 @@
 -- Where a text stops to be the front of a configuration.
 use Rattle.std.specs.Prelude.{◌≡◌, ◌⊎◌, ℕ, List, [], ◌∷◌, ◌++◌}
-use Rattle.mt_syntax.specs.declared.token.Kind.{Kind}
-use Rattle.mt_syntax.specs.declared.token.Kind.TheVariants as kinds
+use Rattle.mt_syntax.specs.declared.token.TokenKind.{TokenKind}
+use Rattle.mt_syntax.specs.declared.token.TokenKind.TheVariants as kinds
 use Rattle.mt_syntax.specs.declared.token.Token.{Token}
 use Rattle.mt_syntax.specs.declared.fault.ClickFault.{ClickFault}
 use Rattle.mt_syntax.specs.declared.fault.Fault.{Fault}
 use Rattle.mt_syntax.specs.Reading.{fault_at}
 use Rattle.mt_syntax.specs.Spelled.{AreTokens}
 use Rattle.mt_syntax.specs.Grammar.{OuterTree, print_config, IsConfig}
-use Rattle.mt_syntax.specs.Place.{no_memory, placed}
+use Rattle.mt_syntax.specs.Position.{no_memory, located}
 
 -- some configuration begins with these tokens
 abbrev pub Begins : List Token → Type 0
@@ -24,7 +24,7 @@ IsNone front = (tree : List OuterTree) → IsConfig tree → print_config tree �
 
 -- With a token it goes wrong: the text ends where no configuration does, or no configuration goes on
 -- with the token.
-abbrev pub GoesWrong : Kind → List Token → Token → Type 0
+abbrev pub GoesWrong : TokenKind → List Token → Token → Type 0
 GoesWrong kinds.Finish front t = IsNone front
 GoesWrong _ front t = BeginsNone (front ++ t ∷ [])
 
@@ -39,4 +39,4 @@ TextStopsAt text f = (tokens : List Token) × AreTokens 0 text tokens × StopsAt
 
 -- Memory ran out, or a fault of reading is told with its line and column.
 abbrev pub TellsStop : List ℕ → ClickFault → Type 0
-TellsStop text e = (e ≡ no_memory) ⊎ ((f : Fault) × TextStopsAt text f × (e ≡ placed text f))
+TellsStop text e = (e ≡ no_memory) ⊎ ((f : Fault) × TextStopsAt text f × (e ≡ located text f))

@@ -1,17 +1,17 @@
 -- The tokens of a text, in order.
 use Rattle.std.specs.Prelude.{ℕ, zero, suc, ◌+◌, ◌-◌, List, [], ◌∷◌, Bool, true, false}
-use Rattle.mt_syntax.specs.declared.token.Kind.{Kind}
-use Rattle.mt_syntax.specs.declared.token.Kind.TheVariants as kinds
+use Rattle.mt_syntax.specs.declared.token.TokenKind.{TokenKind}
+use Rattle.mt_syntax.specs.declared.token.TokenKind.TheVariants as kinds
 use Rattle.mt_syntax.specs.declared.token.Token.{Token}
 use Rattle.mt_syntax.specs.declared.piece.Piece.TheVariants.{Blank, Taken, Wrong}
 use Rattle.mt_syntax.specs.Piece.{piece_at}
 
-abbrev pub is_name : Kind → Bool
+abbrev pub is_name : TokenKind → Bool
 is_name kinds.Name = true
 is_name _ = false
 
 -- a token of a kind, from a place to a place
-abbrev pub token : Kind → ℕ → ℕ → Token
+abbrev pub token : TokenKind → ℕ → ℕ → Token
 token kind from to = record { kind = kind; from = from; to = to }
 
 -- The tokens from a place on. At a place where a piece begins, that piece is told, and its other bytes
@@ -30,13 +30,13 @@ abbrev pub tokens_in : List ℕ → List Token
 tokens_in text = tokens_from 0 false 0 text
 
 -- a token that ends the text
-abbrev pub IsEnd : Kind → Type 0
-IsEnd kinds.Finish = Unit {0}
-IsEnd kinds.Broken = Unit {0}
-IsEnd _ = ⊥
+abbrev pub EndsText : TokenKind → Type 0
+EndsText kinds.Finish = Unit {0}
+EndsText kinds.Broken = Unit {0}
+EndsText _ = ⊥
 
 -- The last token ends the text, and no other does.
 abbrev pub EndOnce : List Token → Type 0
 EndOnce [] = ⊥
-EndOnce (t ∷ []) = IsEnd t.kind
-EndOnce (t ∷ u ∷ ts) = (IsEnd t.kind → ⊥) × EndOnce (u ∷ ts)
+EndOnce (t ∷ []) = EndsText t.kind
+EndOnce (t ∷ u ∷ ts) = (EndsText t.kind → ⊥) × EndOnce (u ∷ ts)

@@ -1,6 +1,6 @@
 -- The bytes of words.
 use Rattle.std.specs.Prelude.{ℕ, ◌-◌, List, [], length, take, drop, Option, Some, None}
-use Rattle.mt_syntax.specs.declared.part.Word.{Word}
+use Rattle.mt_syntax.specs.declared.word.Word.{Word}
 
 -- the bytes of a word
 unfoldable pub bytes_of : List ℕ → Word → List ℕ

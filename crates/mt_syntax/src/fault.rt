@@ -1,5 +1,6 @@
-//! Why a text is no configuration.
-ghost use Rattle.std.specs.Prelude.{◌≡◌};
+//! Why a text is no configuration, and at which line and column.
+ghost use Rattle.std.specs.Prelude.{◌≡◌, ◌≤◌, length};
+ghost use Rattle.mt_syntax.specs.Position.{line_of, column_of, located};
 ghost use Rattle.mt_syntax.specs.declared.fault.ReadError.TheVariants.{Memory};
 
 use std::alloc::{AllocError, AllocFailed};
@@ -53,7 +54,7 @@ pub struct Fault {
     pub at: usize,
 }
 
-/// Why a list of parts could not be made.
+/// Why a list of phrases could not be made.
 #[derive(Clone, Copy, Debug, PartialEq, Eq)]
 pub enum ReadError {
     /// Memory ran out.
@@ -75,5 +76,39 @@ impl<T: Drop> From<AllocFailed<T>> for ReadError {
 
     fn from(_e: AllocFailed<T>) -> ReadError {
         ReadError::Memory
+    }
+}
+
+/// The line and the column of a byte of a text, both counted from 1, the column in bytes. A line
+/// ends behind its line feed.
+pub fn line_and_column(text: &[u8], at: usize) -> (u32, u32)
+    requires { length text.now ≤ 1048576 }
+    ensures line { result.0 ≡ line_of text.now at }
+    ensures column { result.1 ≡ column_of text.now at }
+{
+    let front = &text[..at.min(text.len())];
+    let mut line = 1u32;
+    let mut column = 1u32;
+    for byte in front {
+        if *byte == b'\n' {
+            line += 1;
+            column = 1;
+        } else {
+            column += 1;
+        }
+    }
+    (line, column)
+}
+
+/// A fault with its line and column.
+pub fn fault_in(text: &[u8], fault: Fault) -> ClickFault
+    requires { length text.now ≤ 1048576 }
+    ensures { result ≡ located text.now fault }
+{
+    let (line, column) = line_and_column(text, fault.at);
+    ClickFault {
+        why: fault.why,
+        line,
+        column,
     }
 }

@@ -1,35 +1,31 @@
-//! The text of configurations in the Click language: its tokens, its statements, its argument texts.
+//! Configurations in the Click language as text: tokens, the phrases of statements, and argument texts.
+//! The theorem is `statements`: it reads exactly the trees of the grammar (`specs/Grammar.antt`), and a fault
+//! stands at the first token with which what precedes begins no configuration. Read `syntax.rt` first.
 #![tactic(auto)]
 
+mod advance;
 mod arguments;
 mod byte;
 mod comment;
 mod fault;
-mod moves;
-mod part;
-mod parts;
+mod phrase;
 mod piece;
-mod place;
 mod reading;
 mod replacing;
 mod syntax;
 mod text;
 mod token;
-mod tokens;
-mod words;
+mod word;
 
 pub use arguments::{arguments_of, shown_of};
 pub use comment::{Comment, comment_of};
-pub use fault::{ClickFault, ClickWhy, Fault, ReadError};
-pub use part::{End, Item, Part, Port, Use, Word};
-pub use parts::parts_of;
-pub use place::{fault_in, place_of};
+pub use fault::{ClickFault, ClickWhy, Fault, ReadError, fault_in, line_and_column};
+pub use phrase::{Endpoint, Item, Phrase, PortNumber, Use};
 pub use replacing::{Binding, first_unknown, replaced};
-pub use syntax::{read, statements};
+pub use syntax::{phrases_of, read, statements};
 pub use text::{Text, Texts};
-pub use token::{Kind, Token};
-pub use tokens::tokens_of;
-pub use words::{inner_bytes, word_bytes};
+pub use token::{Token, TokenKind, tokens_of};
+pub use word::{Word, inner_bytes, word_bytes};
 
 #[cfg(test)]
 mod tests;

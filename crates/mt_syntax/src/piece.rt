@@ -5,7 +5,7 @@ ghost use Rattle.mt_syntax.specs.Piece.{name_len, word_at, number_of, digits_len
 use crate::arguments::{closing_length, plain_length};
 use crate::byte::{begins_name, goes_on_name, is_decimal, is_white_byte};
 use crate::comment::{Comment, comment_of};
-use crate::token::Kind;
+use crate::token::TokenKind;
 
 /// What begins at a place of a text.
 #[derive(Clone, Copy, Debug, PartialEq, Eq)]
@@ -13,7 +13,7 @@ pub enum Piece {
     /// White space or a comment of so many bytes.
     Blank(usize),
     /// A token of so many bytes.
-    Taken(Kind, usize),
+    Taken(TokenKind, usize),
     /// Nothing that a text may have here.
     Wrong,
 }
@@ -33,9 +33,9 @@ fn word_of(bytes: &[u8]) -> Piece
 {
     let len = name_length(bytes);
     if &bytes[..len] == b"elementclass".as_slice() {
-        Piece::Taken(Kind::Keyword, len)
+        Piece::Taken(TokenKind::Keyword, len)
     } else {
-        Piece::Taken(Kind::Name, len)
+        Piece::Taken(TokenKind::Name, len)
     }
 }
 
@@ -48,7 +48,7 @@ fn digits_length(bytes: &[u8]) -> usize
 }
 
 // How many of them are a number, for which no more than nine bytes are looked at.
-#[tactic(auto, using(crate::proofs::Numbers::first_nine))]
+#[tactic(auto, using(crate::proofs::NumberDigits::first_nine))]
 fn number_length(bytes: &[u8]) -> usize
     ensures length { result ≡ min (digits_len bytes.now) 9 }
     ensures within { result ≤ length bytes.now }
@@ -76,7 +76,7 @@ fn digits_of(bytes: &[u8]) -> Piece
     ensures within { PieceWithin (length bytes.now) result }
 {
     let len = number_length(bytes);
-    Piece::Taken(Kind::Number(number_value(&bytes[..len])), len)
+    Piece::Taken(TokenKind::Number(number_value(&bytes[..len])), len)
 }
 
 #[tactic(auto, unfolding(crate::specs::Piece::parameter_at))]
@@ -86,7 +86,7 @@ fn parameter_of(bytes: &[u8]) -> Piece
     ensures within { PieceWithin (length bytes.now) result }
 {
     if bytes.len() > 1 && begins_name(bytes[1]) {
-        Piece::Taken(Kind::Parameter, 1 + name_length(&bytes[1..]))
+        Piece::Taken(TokenKind::Parameter, 1 + name_length(&bytes[1..]))
     } else {
         Piece::Wrong
     }
@@ -100,13 +100,13 @@ fn arguments_piece(bytes: &[u8]) -> Piece
 {
     let body = &bytes[1..];
     match closing_length(body) {
-        Some(len) => Piece::Taken(Kind::Arguments, 1 + plain_length(body, len)),
+        Some(len) => Piece::Taken(TokenKind::Arguments, 1 + plain_length(body, len)),
         None => Piece::Wrong,
     }
 }
 
 #[tactic(auto, unfolding(crate::specs::Piece::pair_at))]
-fn pair_of(second: u8, kind: Kind, bytes: &[u8]) -> Piece
+fn pair_of(second: u8, kind: TokenKind, bytes: &[u8]) -> Piece
     ensures piece { result ≡ pair_at second kind bytes.now }
     ensures within { PieceWithin (length bytes.now) result }
 {
@@ -124,13 +124,13 @@ fn mark(byte: u8) -> Piece
     ensures within { PieceWithin 1 result }
 {
     match byte {
-        b'[' => Piece::Taken(Kind::LeftBracket, 1),
-        b']' => Piece::Taken(Kind::RightBracket, 1),
-        b'{' => Piece::Taken(Kind::LeftBrace, 1),
-        b'}' => Piece::Taken(Kind::RightBrace, 1),
-        b'|' => Piece::Taken(Kind::Bar, 1),
-        b';' => Piece::Taken(Kind::Semicolon, 1),
-        b',' => Piece::Taken(Kind::Comma, 1),
+        b'[' => Piece::Taken(TokenKind::LeftBracket, 1),
+        b']' => Piece::Taken(TokenKind::RightBracket, 1),
+        b'{' => Piece::Taken(TokenKind::LeftBrace, 1),
+        b'}' => Piece::Taken(TokenKind::RightBrace, 1),
+        b'|' => Piece::Taken(TokenKind::Bar, 1),
+        b';' => Piece::Taken(TokenKind::Semicolon, 1),
+        b',' => Piece::Taken(TokenKind::Comma, 1),
         _ => Piece::Wrong,
     }
 }
@@ -150,8 +150,8 @@ fn mark_piece(bytes: &[u8], named: bool) -> Piece
             }
         }
         b'$' => parameter_of(bytes),
-        b':' => pair_of(b':', Kind::Colons, bytes),
-        b'-' => pair_of(b'>', Kind::Arrow, bytes),
+        b':' => pair_of(b':', TokenKind::Colons, bytes),
+        b'-' => pair_of(b'>', TokenKind::Arrow, bytes),
         first => mark(first),
     }
 }

@@ -2,11 +2,12 @@
 //! read and the tokens behind it, or the fault of the first token that may not stand there.
 ghost use Rattle.std.specs.Prelude.{◌≡◌, ◌<◌, ◌≤◌, length, IfOk, is_some};
 ghost use Rattle.std.specs.Option.{option_map};
-ghost use Rattle.mt_syntax.specs.Reading.{Reads, no_token, fault_at, word, read_name, read_arguments, read_use, read_number, read_right, read_inner, read_port, read_declared, read_behind, read_item, read_end, read_whole_end, read_left};
+ghost use Rattle.mt_syntax.specs.Reading.{Reads, no_token, fault_at, word, read_name, read_arguments, read_use, read_number, read_right, read_inner, read_port, read_declared, read_behind, read_item, read_endpoint, read_whole_endpoint, read_left};
 
 use crate::fault::{ClickWhy, Fault};
-use crate::part::{End, Item, Port, Use, Word};
-use crate::token::{Kind, Token};
+use crate::phrase::{Endpoint, Item, PortNumber, Use};
+use crate::token::{Token, TokenKind};
+use crate::word::Word;
 
 pub fn word_of(token: &Token) -> Word
     ensures { result ≡ word token.now }
@@ -22,7 +23,7 @@ pub fn fault_of(token: &Token) -> Fault
     ensures { result ≡ fault_at token.now }
 {
     let why = match token.kind {
-        Kind::Broken | Kind::Arguments => ClickWhy::Lex,
+        TokenKind::Broken | TokenKind::Arguments => ClickWhy::Lex,
         _ => ClickWhy::Syntax,
     };
     Fault {
@@ -51,7 +52,7 @@ pub fn name_of(tokens: &[Token]) -> Result<(Word, &[Token]), Fault>
 {
     match tokens {
         [token, rest @ ..] => match token.kind {
-            Kind::Name => Ok((word_of(token), rest)),
+            TokenKind::Name => Ok((word_of(token), rest)),
             _ => Err(fault_of(token)),
         },
         [] => Err(first_fault(tokens)),
@@ -65,7 +66,7 @@ fn arguments_behind(tokens: &[Token]) -> (Option<Word>, &[Token])
 {
     match tokens {
         [token, rest @ ..] => match token.kind {
-            Kind::Arguments => (Some(word_of(token)), rest),
+            TokenKind::Arguments => (Some(word_of(token)), rest),
             _ => (None, tokens),
         },
         [] => (None, tokens),
@@ -89,7 +90,7 @@ fn number_of(tokens: &[Token]) -> Result<(u32, &[Token]), Fault>
 {
     match tokens {
         [token, rest @ ..] => match token.kind {
-            Kind::Number(number) => Ok((number, rest)),
+            TokenKind::Number(number) => Ok((number, rest)),
             _ => Err(fault_of(token)),
         },
         [] => Err(first_fault(tokens)),
@@ -103,7 +104,7 @@ fn behind_right(tokens: &[Token]) -> Result<&[Token], Fault>
 {
     match tokens {
         [token, rest @ ..] => match token.kind {
-            Kind::RightBracket => Ok(rest),
+            TokenKind::RightBracket => Ok(rest),
             _ => Err(fault_of(token)),
         },
         [] => Err(first_fault(tokens)),
@@ -117,7 +118,7 @@ pub fn behind_left(tokens: &[Token]) -> Result<&[Token], Fault>
 {
     match tokens {
         [token, rest @ ..] => match token.kind {
-            Kind::LeftBrace => Ok(rest),
+            TokenKind::LeftBrace => Ok(rest),
             _ => Err(fault_of(token)),
         },
         [] => Err(first_fault(tokens)),
@@ -125,23 +126,23 @@ pub fn behind_left(tokens: &[Token]) -> Result<&[Token], Fault>
 }
 
 #[tactic(auto, unfolding(crate::specs::Reading::read_inner))]
-fn port_inner(at: usize, tokens: &[Token]) -> Result<(Option<Port>, &[Token]), Fault>
+fn port_inner(at: usize, tokens: &[Token]) -> Result<(Option<PortNumber>, &[Token]), Fault>
     ensures reads { Reads (λ x. (x.0, x.1.now)) result (read_inner at tokens.now) }
     ensures shorter { IfOk result (λ x. length x.1.now < length tokens.now) }
 {
     let (number, rest) = number_of(tokens)?;
     let rest = behind_right(rest)?;
-    Ok((Some(Port { at, number }), rest))
+    Ok((Some(PortNumber { at, number }), rest))
 }
 
 #[tactic(auto, unfolding(crate::specs::Reading::read_port))]
-fn port_of(tokens: &[Token]) -> Result<(Option<Port>, &[Token]), Fault>
+fn port_of(tokens: &[Token]) -> Result<(Option<PortNumber>, &[Token]), Fault>
     ensures reads { Reads (λ x. (x.0, x.1.now)) result (read_port tokens.now) }
     ensures shorter { IfOk result (λ x. length x.1.now ≤ length tokens.now) }
 {
     match tokens {
         [token, rest @ ..] => match token.kind {
-            Kind::LeftBracket => port_inner(token.from, rest),
+            TokenKind::LeftBracket => port_inner(token.from, rest),
             _ => Ok((None, tokens)),
         },
         [] => Ok((None, tokens)),
@@ -164,8 +165,8 @@ fn item_behind(name: Word, tokens: &[Token]) -> Result<(Item, &[Token]), Fault>
 {
     match tokens {
         [token, rest @ ..] => match token.kind {
-            Kind::Colons => declared_of(name, rest),
-            Kind::Arguments => {
+            TokenKind::Colons => declared_of(name, rest),
+            TokenKind::Arguments => {
                 let arguments = Some(word_of(token));
                 Ok((
                     Item::Made(Use {
@@ -190,15 +191,18 @@ fn item_of(tokens: &[Token]) -> Result<(Item, &[Token]), Fault>
     item_behind(name, rest)
 }
 
-#[tactic(auto, unfolding(crate::specs::Reading::read_end))]
-pub fn end_of(input: Option<Port>, tokens: &[Token]) -> Result<(End, &[Token]), Fault>
-    ensures reads { Reads (λ x. (x.0, x.1.now)) result (read_end input tokens.now) }
+#[tactic(auto, unfolding(crate::specs::Reading::read_endpoint))]
+pub fn endpoint_of(
+    input: Option<PortNumber>,
+    tokens: &[Token],
+) -> Result<(Endpoint, &[Token]), Fault>
+    ensures reads { Reads (λ x. (x.0, x.1.now)) result (read_endpoint input tokens.now) }
     ensures shorter { IfOk result (λ x. length x.1.now < length tokens.now) }
 {
     let (item, rest) = item_of(tokens)?;
     let (output, rest) = port_of(rest)?;
     Ok((
-        End {
+        Endpoint {
             input,
             item,
             output,
@@ -207,11 +211,11 @@ pub fn end_of(input: Option<Port>, tokens: &[Token]) -> Result<(End, &[Token]), 
     ))
 }
 
-#[tactic(auto, unfolding(crate::specs::Reading::read_whole_end))]
-pub fn whole_end_of(tokens: &[Token]) -> Result<(End, &[Token]), Fault>
-    ensures reads { Reads (λ x. (x.0, x.1.now)) result (read_whole_end tokens.now) }
+#[tactic(auto, unfolding(crate::specs::Reading::read_whole_endpoint))]
+pub fn whole_endpoint_of(tokens: &[Token]) -> Result<(Endpoint, &[Token]), Fault>
+    ensures reads { Reads (λ x. (x.0, x.1.now)) result (read_whole_endpoint tokens.now) }
     ensures shorter { IfOk result (λ x. length x.1.now < length tokens.now) }
 {
     let (input, rest) = port_of(tokens)?;
-    end_of(input, rest)
+    endpoint_of(input, rest)
 }

@@ -1,7 +1,7 @@
 //! Texts with the faults of reading that they have, and argument texts with their arguments.
 use crate::{
-    Binding, ClickWhy, Kind, Text, arguments_of, first_unknown, parts_of, replaced, shown_of,
-    statements, tokens_of,
+    Binding, ClickWhy, Text, TokenKind, arguments_of, first_unknown, phrases_of, replaced,
+    shown_of, statements, tokens_of,
 };
 use std::alloc::{AllocError, Global};
 use std::test::Fail;
@@ -64,19 +64,19 @@ fn texts_are_read_part_by_part(rt: HostRuntime) -> Result<(), Fail> {
         ("A /* c */ (1) // d\n -> B", 2),
     ];
     for row in rows {
-        let parts = statements(rt.alloc(), row.0.as_bytes())
+        let phrases = statements(rt.alloc(), row.0.as_bytes())
             .ok()
             .expect(&rt, row.0);
-        assert_eq!(rt; parts.len(), row.1, "{}", row.0);
+        assert_eq!(rt; phrases.len(), row.1, "{}", row.0);
         let tokens = tokens_of(rt.alloc(), row.0.as_bytes())?;
-        let again = parts_of(rt.alloc(), &tokens).ok().expect(&rt, row.0);
+        let again = phrases_of(rt.alloc(), &tokens).ok().expect(&rt, row.0);
         assert_eq!(rt; again.len(), row.1, "{}", row.0);
     }
     let tokens = tokens_of(rt.alloc(), b"a->[12]b@1(x)")?;
     assert_eq!(rt; tokens.len(), 8);
-    assert_eq!(rt; tokens[3].kind, Kind::Number(12));
+    assert_eq!(rt; tokens[3].kind, TokenKind::Number(12));
     assert_eq!(rt; tokens[5].from, 7);
-    assert_eq!(rt; tokens[6].kind, Kind::Arguments);
+    assert_eq!(rt; tokens[6].kind, TokenKind::Arguments);
     assert_eq!(rt; tokens[6].to, 13);
     Ok(())
 }

@@ -1,7 +1,7 @@
 use Rattle.std.proofs.Common.{◌≡◌, ℕ, ◌+◌, List, Option, Some, drop, get_or, sym, ap, ◌∙◌, arith}
 use Rattle.std.specs.Option.{option_map}
 use Rattle.mt_syntax.specs.Closing.{closing}
-use Rattle.mt_syntax.proofs.Comments.{hidden_skip, hidden_absent, hidden_closed, hidden_open, hidden_end, closing_none, closing_some, closing_here, closing_nothings, closing_end, depth_within}
+use Rattle.mt_syntax.proofs.HiddenComments.{hidden_skip, hidden_absent, hidden_closed, hidden_open, hidden_end, closing_none, closing_some, closing_here, closing_nothings, closing_end, depth_within}
 use Rattle.mt_syntax.proofs.arguments.closing_length.Goals as goal
 use Rattle.mt_syntax.proofs.arguments.closing_length.Goals.{in-Closed, in-Absent+else-body-at-eq41, else-body-at-eq41-via-then-body-at-eq41+else-depth-eq0, else-body-at-eq41-via-else-body-at-eq41}
 

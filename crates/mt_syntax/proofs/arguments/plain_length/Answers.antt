@@ -2,7 +2,7 @@ use Rattle.std.proofs.Common.{◌≡◌, ◌+◌, ◌<◌, length, drop, get_or,
 use Rattle.std.proofs.lemmas.Bool.{cases_lt}
 use Rattle.mt_syntax.specs.Comment.{hidden}
 use Rattle.mt_syntax.specs.Closing.{plain_len}
-use Rattle.mt_syntax.proofs.Comments.{hidden_skip, hidden_absent, hidden_closed, hidden_open, hidden_end, plain_nothings, plain_some, plain_stop}
+use Rattle.mt_syntax.proofs.HiddenComments.{hidden_skip, hidden_absent, hidden_closed, hidden_open, hidden_end, plain_nothings, plain_some, plain_stop}
 use Rattle.mt_syntax.proofs.arguments.plain_length.Goals as goal
 use Rattle.mt_syntax.proofs.arguments.plain_length.Goals.{in-Closed, in-Absent+else-body-at-gt126}
 

@@ -3,7 +3,7 @@ use Rattle.std.specs.Option.{option_to_list}
 use Rattle.std.specs.List.{flat_map}
 use Rattle.std.proofs.lemmas.List.{append-nil}
 use Rattle.mt_syntax.specs.Comment.{hidden}
-use Rattle.mt_syntax.proofs.Comments.{hidden_skip, hidden_absent, hidden_closed, hidden_open, hidden_end, shown_nothings, shown_step}
+use Rattle.mt_syntax.proofs.HiddenComments.{hidden_skip, hidden_absent, hidden_closed, hidden_open, hidden_end, shown_nothings, shown_step}
 use Rattle.mt_syntax.proofs.arguments.shown_of.Goals as goal
 use Rattle.mt_syntax.proofs.arguments.shown_of.Goals.{in-Closed, in-Absent+in_ok-push-in-Absent}
 

@@ -1,4 +1,4 @@
-use Rattle.mt_syntax.proofs.Commas.{tidy_white, tidy_other, tidy_done}
+use Rattle.mt_syntax.proofs.TidyLoop.{tidy_white, tidy_other, tidy_done}
 use Rattle.std.proofs.Common.{sym, ◌∙◌}
 use Rattle.mt_syntax.proofs.arguments.tidied.Goals as goal
 use Rattle.mt_syntax.proofs.arguments.tidied.Goals.{then-is_white_byte, else-is_white_byte+in_ok-push_after}

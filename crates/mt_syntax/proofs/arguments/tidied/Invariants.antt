@@ -1,6 +1,6 @@
 use Rattle.std.proofs.Common.{◌≡◌, ◌++◌, eqb, not, drop, length}
 use Rattle.mt_syntax.specs.Arguments.{tidy}
-use Rattle.mt_syntax.proofs.Commas.{tidy_rest}
+use Rattle.mt_syntax.proofs.TidyLoop.{tidy_rest}
 use Rattle.mt_syntax.proofs.arguments.tidied.Given as goal
 
 abbrev pub invariant-loop-byte : goal.invariant-loop-byte

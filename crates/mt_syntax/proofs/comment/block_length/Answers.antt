@@ -1,4 +1,4 @@
-use Rattle.mt_syntax.proofs.Comments.{block_on, block_off, block_end}
+use Rattle.mt_syntax.proofs.HiddenComments.{block_on, block_off, block_end}
 use Rattle.mt_syntax.proofs.comment.block_length.Goals as goal
 use Rattle.mt_syntax.proofs.comment.block_length.Goals.{else-bytes-at-eq42-via-then-bytes-at-eq42+else-bytes-at-eq47, else-bytes-at-eq42-via-else-bytes-at-eq42}
 

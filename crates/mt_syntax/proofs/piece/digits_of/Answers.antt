@@ -1,5 +1,5 @@
 use Rattle.std.proofs.Common.{arith, length-take}
-use Rattle.mt_syntax.proofs.Numbers.{front_digits}
+use Rattle.mt_syntax.proofs.NumberDigits.{front_digits}
 use Rattle.mt_syntax.proofs.piece.digits_of.Goals as goal
 
 pub number_value-requires-clause-digits : goal.number_value-requires-clause-digits

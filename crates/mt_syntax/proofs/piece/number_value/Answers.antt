@@ -1,5 +1,5 @@
 use Rattle.std.proofs.Common.{refl, arith}
-use Rattle.mt_syntax.proofs.Numbers.{nine_digits, next_power, number_more}
+use Rattle.mt_syntax.proofs.NumberDigits.{nine_digits, next_power, number_more}
 use Rattle.mt_syntax.proofs.piece.number_value.Goals as goal
 
 pub overflow_mul-number : goal.overflow_mul-number

@@ -1,5 +1,5 @@
 use Rattle.std.proofs.Common.{◌∙◌}
-use Rattle.mt_syntax.proofs.Dollars.{unknown_on, unknown_here, unknown_end, tested}
+use Rattle.mt_syntax.proofs.ReplaceLoop.{unknown_on, unknown_here, unknown_end, tested}
 use Rattle.mt_syntax.proofs.replacing.first_unknown.Goals as goal
 
 pub returns-then-is_unknown : goal.returns-then-is_unknown

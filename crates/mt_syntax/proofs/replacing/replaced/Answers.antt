@@ -2,8 +2,8 @@ use Rattle.std.proofs.Common.{◌≡◌, ℕ, ◌+◌, ◌++◌, List, [], ◌�
 use Rattle.std.proofs.lemmas.List.{append-nil}
 use Rattle.mt_syntax.specs.Piece.{name_len}
 use Rattle.mt_syntax.specs.Replacing.{replaced_from}
-use Rattle.mt_syntax.proofs.Comments.{to_end}
-use Rattle.mt_syntax.proofs.Dollars.{replaced_skip, replaced_none, replaced_some, replaced_end}
+use Rattle.mt_syntax.proofs.HiddenComments.{to_end}
+use Rattle.mt_syntax.proofs.ReplaceLoop.{replaced_skip, replaced_none, replaced_some, replaced_end}
 use Rattle.mt_syntax.proofs.replacing.replaced.Goals as goal
 use Rattle.mt_syntax.proofs.replacing.replaced.Goals.{in-Some+in_ok-extend_from_slice-in-Some, in-None+in_ok-push-in-None}
 
