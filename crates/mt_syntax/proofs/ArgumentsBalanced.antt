@@ -6,8 +6,9 @@ use Rattle.std.specs.Str.{bytes_eq}
 use Rattle.std.proofs.lemmas.Bool.{eqb-true}
 use Rattle.std.proofs.lemmas.Bool.Decides.{nat_tests}
 use Rattle.std.proofs.lemmas.List.{length-map}
+use Rattle.mt_lists.proofs.Bools.{and_first}
 use Rattle.mt_syntax.specs.declared.replacing.Binding.{Binding}
-use Rattle.mt_syntax.specs.Byte.{is_white, is_letter, is_name_byte}
+use Rattle.mt_text.specs.Byte.{is_white, is_letter, is_name_byte}
 use Rattle.mt_syntax.specs.Closing.{depth_after}
 use Rattle.mt_syntax.specs.Piece.{name_len}
 use Rattle.mt_syntax.specs.Arguments.{tidy_after, tidy, onto, between_commas, separated}
@@ -29,16 +30,12 @@ if_parameter : (t : Bool) (o : Option (List ℕ)) (argument : List ℕ) → cond
 if_parameter true o argument e = (refl, e)
 if_parameter false o argument e = absurd cc
 
-front : (a b : Bool) → (a && b) ≡ true → a ≡ true
-front true b e = refl
-front false b e = e
-
 -- the argument that stands for the `$` at the front
 found_argument : (bindings : List Binding) (b : ℕ) (bs argument : List ℕ) → AreWholeBindings bindings → argument_at bindings (b ∷ bs) ≡ Some argument → (b ≡ 36) × IsWhole argument
 unfolding argument_at
 found_argument bindings b bs argument w e =
     let h = if_parameter (is_parameter (b ∷ bs)) (argument_for bindings (parameter_name (b ∷ bs))) argument e in
-    (eqb-true b 36 (front (eqb b 36) (is_letter (get_or bs 0 0)) h.0), argument_whole bindings (parameter_name (b ∷ bs)) argument w h.1)
+    (eqb-true b 36 (and_first (eqb b 36) (is_letter (get_or bs 0 0)) h.0), argument_whole bindings (parameter_name (b ∷ bs)) argument w h.1)
 
 one_of_name : (s b : ℕ) (bs : List ℕ) → suc s ≤ name_len (b ∷ bs) → (is_name_byte b ≡ true) × (s ≤ name_len bs)
 one_of_name s b bs h =
@@ -121,7 +118,7 @@ raw_grows d b [] t c h = absurd h
 raw_grows d b (p ∷ ps) t c h = (depth_step d b p t ∙ h.0, commas_step d b p ∙ rw c (zero-add (commas (depth_after d b) p) ∙ h.1), h.2)
 
 comma_depth : (d b : ℕ) → (eqb b 44 && eqb d 0) ≡ true → (b ≡ 44) × (d ≡ 0)
-comma_depth d b t = (eqb-true b 44 (front (eqb b 44) (eqb d 0) t), grind (arith, nat_tests))
+comma_depth d b t = (eqb-true b 44 (and_first (eqb b 44) (eqb d 0) t), grind (arith, nat_tests))
 
 after_comma : (d b : ℕ) → (eqb b 44 && eqb d 0) ≡ true → depth_after d b ≡ d
 after_comma d b t = let c = comma_depth d b t in rw c.0 refl

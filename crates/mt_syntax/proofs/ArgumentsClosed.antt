@@ -9,7 +9,7 @@ use Rattle.mt_syntax.specs.declared.token.TokenKind.TheVariants as kinds
 use Rattle.mt_syntax.specs.declared.token.Token.{Token}
 use Rattle.mt_syntax.specs.declared.piece.Piece.{Piece}
 use Rattle.mt_syntax.specs.declared.piece.Piece.TheVariants.{Taken, Wrong}
-use Rattle.mt_syntax.specs.Byte.{is_white, is_letter, is_digit}
+use Rattle.mt_text.specs.Byte.{is_white, is_letter, is_digit}
 use Rattle.mt_syntax.specs.Comment.{comment_at, hidden, bare}
 use Rattle.mt_syntax.specs.Closing.{closing, depth_after, is_plain, plain_len}
 use Rattle.mt_syntax.specs.Piece.{mark_of, mark_at, plain_at, piece_at}
@@ -20,7 +20,7 @@ use Rattle.mt_syntax.specs.Balance.{IsClosed, NoBroken, AreClosed}
 use Rattle.mt_syntax.proofs.TokenWalk.{EachWithRest, each_with_rest, of_one}
 use Rattle.mt_syntax.proofs.NamesSpelled.{IsKnown, GoesTo, piece_known, token_bytes}
 use Rattle.mt_syntax.proofs.CommentsCut.{closing_low, next_closing, here_or_next, hidden_absent, hidden_closed, hidden_open, cut}
-use Rattle.mt_syntax.proofs.ArgumentsWhole.{length_hidden}
+use Rattle.mt_syntax.proofs.HiddenComments.{length_hidden}
 
 -- a byte above 126 outside comments begins no token
 

@@ -5,12 +5,12 @@ use Rattle.std.proofs.lemmas.Bool.Decides.{nat_tests}
 use Rattle.std.proofs.lemmas.List.{take-append-drop}
 use Rattle.mt_syntax.specs.declared.comment.Comment.{Comment}
 use Rattle.mt_syntax.specs.declared.comment.Comment.TheVariants.{Absent, Closed, Open}
-use Rattle.mt_syntax.specs.Comment.{comment_at, hidden}
+use Rattle.mt_syntax.specs.Comment.{comment_at, hidden, nothings}
 use Rattle.mt_syntax.specs.Closing.{closing, plain_len}
 use Rattle.mt_syntax.specs.Spelled.{IsComment, OpensComment, RunsToClose, IsPlain, IsCutOff, IsArgumentText}
 use Rattle.mt_syntax.specs.Spelled.RunsToClose.{ends, falls, rises, passes, comment as in_comment}
 use Rattle.mt_syntax.specs.Spelled.IsPlain.{nothing, byte, comment as plain_comment}
-use Rattle.mt_syntax.proofs.HiddenComments.{step_absent, step_closed, step_open, nothings, all_hidden, plain_some, plain_stop, closing_nothings}
+use Rattle.mt_syntax.proofs.HiddenComments.{step_absent, step_closed, step_open, all_hidden, plain_some, plain_stop, closing_nothings}
 use Rattle.mt_syntax.proofs.CommentsSpelled.{some_is, comment_is, is_comment_at, comment_has_byte, absent_opens_none, opens_none_at}
 
 -- a text whose comments are hidden, unit by unit

@@ -4,33 +4,19 @@ use Rattle.std.specs.List.{flat_map}
 use Rattle.std.specs.Option.{option_to_list}
 use Rattle.std.proofs.lemmas.List.Concat.{flat_map-cons}
 use Rattle.std.proofs.lemmas.Bool.Decides.{nat_tests}
-use Rattle.mt_syntax.specs.declared.comment.Comment.{Comment}
-use Rattle.mt_syntax.specs.declared.comment.Comment.TheVariants.{Absent, Closed, Open}
 use Rattle.mt_syntax.specs.declared.replacing.Binding.{Binding}
-use Rattle.mt_syntax.specs.Comment.{comment_at, hidden, bare}
+use Rattle.mt_syntax.specs.Comment.{bare}
 use Rattle.mt_syntax.specs.Closing.{closing, depth_after}
 use Rattle.mt_syntax.specs.Words.{within}
 use Rattle.mt_syntax.specs.Arguments.{shown, separated}
 use Rattle.mt_syntax.specs.Replacing.{replaced_in}
 use Rattle.mt_syntax.specs.Balance.{depth_behind, IsBalanced, AreWhole, AreWholeBindings, IsClosed}
+use Rattle.mt_syntax.proofs.HiddenComments.{length_hidden}
 use Rattle.mt_syntax.proofs.ParenthesisDepth.{depth_step}
 use Rattle.mt_syntax.proofs.CommentsCut.{closing_low, next_closing, here_or_next, cut}
 use Rattle.mt_syntax.proofs.ArgumentsBalanced.{replaced_balanced, replaced_parts, separated_balanced, separated_parts, few_raws}
 
 -- what is seen of a text, and how much
-
-pub length_hidden : (bytes : List ℕ) (s : ℕ) → length (hidden s bytes) ≡ length bytes
-unfolding hidden
-length_hidden [] zero = refl
-length_hidden [] (suc s) = refl
-length_hidden (b ∷ bs) (suc s) = ap suc (length_hidden bs s)
-length_hidden (b ∷ bs) zero =
-    elim (comment_at (b ∷ bs)) as (λ (c : Comment). length {A = Option ℕ} (elim c [ Absent ↦ Some b ∷ hidden 0 bs | Closed n ↦ None ∷ hidden (n - 1) bs | Open ↦ None ∷ hidden (length bs) bs ]) ≡ suc (length bs)) [
-      | Absent ↦ ap suc (length_hidden bs 0)
-      | Closed n ↦ ap suc (length_hidden bs (n - 1))
-      | Open ↦ ap suc (length_hidden bs (length bs))
-    ]
-
 few_seen : (bytes : List (Option ℕ)) → length (flat_map option_to_list bytes) ≤ length bytes
 few_seen [] = omega arith
 few_seen (None ∷ bs) = let e = ap length (flat_map-cons option_to_list None bs) in omega (arith, e, few_seen bs)

@@ -1,38 +1,14 @@
 -- The comment at the front of a text is what the text says.
-use Rattle.std.proofs.Common.{◌≡◌, ◌⊎◌, ℕ, zero, suc, ◌+◌, ◌<◌, List, [], ◌∷◌, ◌++◌, length, take, drop, get_or, cond, eqb, ltb, Bool, true, false, ◌&&◌, ◌||◌, not, Option, Some, None, refl, sym, ap, subst, ◌∙◌, inl, inr, arith, append_assoc, length-append}
+use Rattle.std.proofs.Common.{◌≡◌, ℕ, zero, suc, ◌+◌, ◌<◌, List, [], ◌∷◌, ◌++◌, length, take, drop, get_or, cond, eqb, ltb, Bool, true, false, ◌&&◌, ◌||◌, not, Option, Some, None, refl, sym, ap, subst, ◌∙◌, inl, inr, arith, append_assoc, length-append}
 use Rattle.std.specs.Prelude.{IsTrue}
 use Rattle.std.specs.List.{AllByRecursion, prefix_len}
 use Rattle.std.specs.Option.{option_map}
 use Rattle.std.proofs.lemmas.Bool.{eqb-true}
 use Rattle.std.proofs.lemmas.Bool.Decides.{nat_tests}
+use Rattle.mt_lists.proofs.Bools.{chosen, and_true, or_false, true_behind, false_behind, not_true}
 use Rattle.mt_syntax.specs.declared.comment.Comment.TheVariants.{Absent, Closed}
 use Rattle.mt_syntax.specs.Comment.{line_len, block_len, closed, comment_at}
 use Rattle.mt_syntax.specs.Spelled.{Stops, EndsLine, IsLineComment, HasNoClose, IsBlockComment, IsComment, OpensComment}
-
--- which way a test went
-pub chosen : {A : Type 0} (t : Bool) (x y z : A) → cond t x y ≡ z → ((t ≡ true) × (x ≡ z)) ⊎ ((t ≡ false) × (y ≡ z))
-chosen true x y z e = inl (refl, e)
-chosen false x y z e = inr (refl, e)
-
-pub both : (a b : Bool) → (a && b) ≡ true → (a ≡ true) × (b ≡ true)
-both true b e = (refl, e)
-both false b e = absurd cc
-
-or_false : (a b : Bool) → (a || b) ≡ false → (a ≡ false) × (b ≡ false)
-or_false true b e = absurd cc
-or_false false b e = (refl, e)
-
-or_true : (a : Bool) → (a || true) ≡ true
-or_true true = refl
-or_true false = refl
-
-and_false : (a : Bool) → (a && false) ≡ false
-and_false true = refl
-and_false false = refl
-
-pub not_false : (a : Bool) → not a ≡ true → a ≡ false
-not_false true e = absurd cc
-not_false false e = refl
 
 not_not : (a : Bool) → not a ≡ false → a ≡ true
 not_not true e = refl
@@ -63,7 +39,7 @@ stops_behind p (x ∷ xs) = stops_at p (p x) x xs refl (stops_behind p xs)
 -- so it is told how long the front is
 pub prefix_stops : (p : ℕ → Bool) (xs rest : List ℕ) → AllByRecursion (λ c. IsTrue (p c)) xs → Stops p rest → prefix_len p (xs ++ rest) ≡ length xs
 prefix_stops p [] [] all stops = refl
-prefix_stops p [] (b ∷ bs) all stops = let f : p b ≡ false = not_false (p b) stops in rw f refl
+prefix_stops p [] (b ∷ bs) all stops = let f : p b ≡ false = not_true (p b) stops in rw f refl
 prefix_stops p (x ∷ xs) rest all stops =
     let t : p x ≡ true = all.0 in
     let e = prefix_stops p xs rest all.1 stops in
@@ -82,7 +58,7 @@ all_in_line (x ∷ xs) h = (in_line x h.0, all_in_line xs h.1)
 
 ends_line : (xs : List ℕ) → Stops (λ c. not (eqb c 10)) xs → EndsLine xs
 ends_line [] h = tt
-ends_line (x ∷ xs) h = eqb-true x 10 (not_not (eqb x 10) (not_false (not (eqb x 10)) h))
+ends_line (x ∷ xs) h = eqb-true x 10 (not_not (eqb x 10) (not_true (not (eqb x 10)) h))
 
 line_stops : (xs : List ℕ) → EndsLine xs → Stops (λ c. not (eqb c 10)) xs
 line_stops [] h = tt
@@ -117,9 +93,9 @@ one_byte_no_close front back e =
     omega arith
 
 ends_here : (b : ℕ) (bs : List ℕ) (n : ℕ) → (eqb b 42 && eqb (get_or bs 0 0) 47) ≡ true → Some 2 ≡ Some n → (inner : List ℕ) × IsBlockEnd (take n (b ∷ bs)) inner
-ends_here b [] n t e = absurd (let x = both (eqb b 42) (eqb 0 47) t in (let y : eqb 0 47 ≡ true = x.1 in cc))
+ends_here b [] n t e = absurd (let x = and_true (eqb b 42) (eqb 0 47) t in (let y : eqb 0 47 ≡ true = x.1 in cc))
 ends_here b (c ∷ bs) n t e =
-    let x = both (eqb b 42) (eqb c 47) t in
+    let x = and_true (eqb b 42) (eqb c 47) t in
     let be : b ≡ 42 = eqb-true _ _ x.0 in
     let ce : c ≡ 47 = eqb-true _ _ x.1 in
     let ne : 2 ≡ n = cc in
@@ -196,7 +172,7 @@ comment_is bytes n e =
 
 pub absent_at : (b : ℕ) (bs : List ℕ) → eqb b 47 ≡ false → comment_at (b ∷ bs) ≡ Absent
 unfolding comment_at
-absent_at b bs f = rw (f, or_true (ltb (length (b ∷ bs)) 2)) refl
+absent_at b bs f = rw (f, true_behind (ltb (length (b ∷ bs)) 2)) refl
 
 slash_at : (c : ℕ) (bs : List ℕ) → comment_at (47 ∷ c ∷ bs) ≡ cond (eqb c 47) (Closed (line_len (47 ∷ c ∷ bs))) (cond (not (eqb c 42)) Absent (closed (block_len bs)))
 unfolding comment_at
@@ -210,10 +186,10 @@ block_off b bs f = rw f refl
 
 block_first : (inner rest : List ℕ) → HasNoClose (inner ++ 42 ∷ []) → block_len (inner ++ 42 ∷ 47 ∷ rest) ≡ Some (length inner + 2)
 block_first [] rest h = refl
-block_first (x ∷ []) rest h = block_off x (42 ∷ 47 ∷ rest) (and_false (eqb x 42))
+block_first (x ∷ []) rest h = block_off x (42 ∷ 47 ∷ rest) (false_behind (eqb x 42))
 block_first (x ∷ y ∷ ys) rest h =
     let f : (eqb x 42 && eqb y 47) ≡ false = elim (eqb x 42 && eqb y 47) as (λ (t : Bool). (eqb x 42 && eqb y 47) ≡ t → t ≡ false) [
-      | true ↦ λ e. absurd (let t = both (eqb x 42) (eqb y 47) e in (let xe : x ≡ 42 = eqb-true _ _ t.0 in (let ye : y ≡ 47 = eqb-true _ _ t.1 in h [] (ys ++ 42 ∷ []) (ap (λ k. k ∷ y ∷ (ys ++ 42 ∷ [])) xe ∙ ap (λ k. 42 ∷ k ∷ (ys ++ 42 ∷ [])) ye))))
+      | true ↦ λ e. absurd (let t = and_true (eqb x 42) (eqb y 47) e in (let xe : x ≡ 42 = eqb-true _ _ t.0 in (let ye : y ≡ 47 = eqb-true _ _ t.1 in h [] (ys ++ 42 ∷ []) (ap (λ k. k ∷ y ∷ (ys ++ 42 ∷ [])) xe ∙ ap (λ k. 42 ∷ k ∷ (ys ++ 42 ∷ [])) ye))))
       | false ↦ λ e. refl
     ] refl in
     let ih : block_len (y ∷ (ys ++ 42 ∷ 47 ∷ rest)) ≡ Some (length (y ∷ ys) + 2) = block_first (y ∷ ys) rest (λ front back e. h (x ∷ front) back (ap (λ (z : List ℕ). x ∷ z) e)) in

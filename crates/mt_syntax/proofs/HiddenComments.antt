@@ -8,8 +8,21 @@ use Rattle.mt_syntax.specs.declared.comment.Comment.{Comment}
 use Rattle.mt_syntax.specs.declared.comment.Comment.TheVariants.{Absent, Closed, Open}
 use Rattle.std.proofs.lemmas.Bool.{le-leb}
 use Rattle.std.proofs.lemmas.Bool.Decides.{nat_tests}
-use Rattle.mt_syntax.specs.Comment.{block_len, comment_at, hidden}
+use Rattle.mt_syntax.specs.Comment.{block_len, comment_at, hidden, nothings}
 use Rattle.mt_syntax.specs.Closing.{closing, is_plain, depth_after}
+
+-- as many places as the text has bytes
+pub length_hidden : (bytes : List ℕ) (s : ℕ) → length (hidden s bytes) ≡ length bytes
+unfolding hidden
+length_hidden [] zero = refl
+length_hidden [] (suc s) = refl
+length_hidden (b ∷ bs) (suc s) = ap suc (length_hidden bs s)
+length_hidden (b ∷ bs) zero =
+    elim (comment_at (b ∷ bs)) as (λ (c : Comment). length {A = Option ℕ} (elim c [ Absent ↦ Some b ∷ hidden 0 bs | Closed n ↦ None ∷ hidden (n - 1) bs | Open ↦ None ∷ hidden (length bs) bs ]) ≡ suc (length bs)) [
+      | Absent ↦ ap suc (length_hidden bs 0)
+      | Closed n ↦ ap suc (length_hidden bs (n - 1))
+      | Open ↦ ap suc (length_hidden bs (length bs))
+    ]
 
 -- a slice up to the end is what is left of the list
 pub to_end : (xs : List ℕ) (i : ℕ) → take (length xs - i) (drop i xs) ≡ drop i xs
@@ -49,11 +62,6 @@ pub hidden_end : (xs : List ℕ) (i s : ℕ) → length xs ≤ i → hidden s (d
 unfolding hidden
 hidden_end xs i zero le = at_drop_all (hidden zero) xs i le
 hidden_end xs i (suc s) le = at_drop_all (hidden (suc s)) xs i le
-
--- nothing, at each place of a list
-abbrev pub nothings : List ℕ → List (Option ℕ)
-nothings [] = []
-nothings (b ∷ bs) = None ∷ nothings bs
 
 pub all_hidden : (bs : List ℕ) (s : ℕ) → length bs ≤ s → hidden s bs ≡ nothings bs
 unfolding hidden

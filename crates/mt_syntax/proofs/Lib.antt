@@ -34,3 +34,6 @@ pub mod ArgumentsBalanced
 pub mod CommentsCut
 pub mod ArgumentsWhole
 pub mod ArgumentsClosed
+pub mod ArgumentsReadBack
+pub mod ReplacedSpelled
+pub mod ShownIndex

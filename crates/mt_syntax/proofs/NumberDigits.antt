@@ -4,7 +4,7 @@ use Rattle.std.specs.List.{prefix_len}
 use Rattle.std.proofs.lemmas.List.{take_more, get_or-take}
 use Rattle.std.proofs.lemmas.List.Sums.{prefix_len_passes, prefix_len-le-length, fold_push}
 use Rattle.std.proofs.lemmas.Bool.Decides.{nat_tests}
-use Rattle.mt_syntax.specs.Byte.{is_digit}
+use Rattle.mt_text.specs.Byte.{is_digit}
 use Rattle.mt_syntax.specs.Piece.{number_of, digits_len}
 use Rattle.std.proofs.Math.Nat.{pow-le-pow_right, pow-suc}
 

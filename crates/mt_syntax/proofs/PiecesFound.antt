@@ -9,7 +9,7 @@ use Rattle.std.proofs.Math.Seq.{take-append_seam}
 use Rattle.mt_syntax.specs.declared.token.TokenKind.{TokenKind}
 use Rattle.mt_syntax.specs.declared.token.TokenKind.TheVariants as kinds
 use Rattle.mt_syntax.specs.declared.piece.Piece.TheVariants.{Blank, Taken}
-use Rattle.mt_syntax.specs.Byte.{is_white, is_letter, is_digit, is_name_byte}
+use Rattle.mt_text.specs.Byte.{is_white, is_letter, is_digit, is_name_byte}
 use Rattle.mt_syntax.specs.Comment.{bare}
 use Rattle.mt_syntax.specs.Closing.{plain_len}
 use Rattle.mt_syntax.specs.Piece.{number_of, name_len, digits_len, word_at, digits_at, parameter_at, arguments_to, arguments_at, pair_at, mark_of, mark_at, plain_at, piece_at}
@@ -61,11 +61,11 @@ blank_there named bytes rest (inr h) = rw (is_comment_at bytes rest h, piece_at)
 name_goes_on : (b : ℕ) → is_letter b ≡ true → is_name_byte b ≡ true
 name_goes_on b h = rw h refl
 
-word_len : (bytes rest : List ℕ) → IsWord bytes rest → name_len (bytes ++ rest) ≡ length bytes
+pub word_len : (bytes rest : List ℕ) → IsWord bytes rest → name_len (bytes ++ rest) ≡ length bytes
 word_len [] rest h = absurd h.0
 word_len (b ∷ bs) rest h = prefix_stops is_name_byte (b ∷ bs) rest (name_goes_on b h.0.0, h.0.1) h.1
 
-word_taken : (bytes rest : List ℕ) → IsWord bytes rest → take (name_len (bytes ++ rest)) (bytes ++ rest) ≡ bytes
+pub word_taken : (bytes rest : List ℕ) → IsWord bytes rest → take (name_len (bytes ++ rest)) (bytes ++ rest) ≡ bytes
 word_taken bytes rest h = ap (λ k. take k (bytes ++ rest)) (word_len bytes rest h) ∙ take-append_seam bytes rest
 
 word_begins : (named : Bool) (bytes rest : List ℕ) → IsWord bytes rest → piece_at named (bytes ++ rest) ≡ word_at (bytes ++ rest)

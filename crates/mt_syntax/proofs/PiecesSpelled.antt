@@ -8,17 +8,18 @@ use Rattle.std.proofs.lemmas.Bool.Decides.{nat_tests}
 use Rattle.std.proofs.lemmas.Slice.Eq.{bytes_eq-Decides}
 use Rattle.std.proofs.lemmas.List.Sums.{prefix_len-le-length}
 use Rattle.std.proofs.Math.Seq.{take-append_seam, drop-append_seam}
+use Rattle.mt_lists.proofs.Bools.{and_true}
 use Rattle.mt_syntax.specs.declared.comment.Comment.{Comment}
 use Rattle.mt_syntax.specs.declared.comment.Comment.TheVariants.{Absent, Closed, Open}
 use Rattle.mt_syntax.specs.declared.token.TokenKind.TheVariants as kinds
 use Rattle.mt_syntax.specs.declared.piece.Piece.{Piece}
 use Rattle.mt_syntax.specs.declared.piece.Piece.TheVariants.{Blank, Taken, Wrong}
-use Rattle.mt_syntax.specs.Byte.{is_white, is_letter, is_digit, is_name_byte}
+use Rattle.mt_text.specs.Byte.{is_white, is_letter, is_digit, is_name_byte}
 use Rattle.mt_syntax.specs.Comment.{comment_at, hidden, bare}
 use Rattle.mt_syntax.specs.Closing.{closing, plain_len}
 use Rattle.mt_syntax.specs.Piece.{name_len, digits_len, word_at, digits_at, parameter_at, arguments_to, arguments_at, pair_at, mark_of, mark_at, plain_at, piece_at}
 use Rattle.mt_syntax.specs.Spelled.{Stops, IsBlank, IsIdentifier, IsWord, IsToken, IsArgumentText}
-use Rattle.mt_syntax.proofs.CommentsSpelled.{both, front_passes, taken_first, stops_behind, comment_is}
+use Rattle.mt_syntax.proofs.CommentsSpelled.{front_passes, taken_first, stops_behind, comment_is}
 use Rattle.mt_syntax.proofs.ArgumentsSpelled.{argument_is}
 
 -- what a piece is at the front of a text
@@ -34,7 +35,7 @@ by_test named false x y bytes a b = b refl
 letter_goes_on : (b : ℕ) → is_letter b ≡ true → is_name_byte b ≡ true
 letter_goes_on b h = rw h refl
 
-word_front : (b : ℕ) (bs : List ℕ) → is_letter b ≡ true → IsWord (take (name_len (b ∷ bs)) (b ∷ bs)) (drop (name_len (b ∷ bs)) (b ∷ bs))
+pub word_front : (b : ℕ) (bs : List ℕ) → is_letter b ≡ true → IsWord (take (name_len (b ∷ bs)) (b ∷ bs)) (drop (name_len (b ∷ bs)) (b ∷ bs))
 word_front b bs h =
     let e : take (name_len (b ∷ bs)) (b ∷ bs) ≡ b ∷ take (name_len bs) bs = taken_first is_name_byte b bs (letter_goes_on b h) in
     (subst IsIdentifier (sym e) (h, front_passes is_name_byte bs), stops_behind is_name_byte (b ∷ bs))
@@ -80,11 +81,11 @@ parameter_is : (named : Bool) (bytes : List ℕ) → get_or bytes 0 0 ≡ 36 →
 unfolding parameter_at
 parameter_is named [] e = absurd cc
 parameter_is named (x ∷ []) e =
-    by_test named (ltb 1 (length (x ∷ [])) && is_letter 0) (Taken kinds.Parameter (1 + name_len [])) Wrong (x ∷ []) (λ t. absurd (let q = (both (ltb 1 1) (is_letter 0) t).1 in (let r : is_letter 0 ≡ true = q in cc))) (λ _. tt)
+    by_test named (ltb 1 (length (x ∷ [])) && is_letter 0) (Taken kinds.Parameter (1 + name_len [])) Wrong (x ∷ []) (λ t. absurd (let q = (and_true (ltb 1 1) (is_letter 0) t).1 in (let r : is_letter 0 ≡ true = q in cc))) (λ _. tt)
 parameter_is named (x ∷ y ∷ bs) e =
     let n = name_len (y ∷ bs) in
     by_test named (ltb 1 (length (x ∷ y ∷ bs)) && is_letter y) (Taken kinds.Parameter (1 + n)) Wrong (x ∷ y ∷ bs)
-    (λ t. (take n (y ∷ bs), one_more n x (y ∷ bs) ∙ ap (λ k. k ∷ take n (y ∷ bs)) e, subst (IsWord (take n (y ∷ bs))) (sym (one_less n x (y ∷ bs))) (word_front y bs (both (ltb 1 (length (x ∷ y ∷ bs))) (is_letter y) t).1)))
+    (λ t. (take n (y ∷ bs), one_more n x (y ∷ bs) ∙ ap (λ k. k ∷ take n (y ∷ bs)) e, subst (IsWord (take n (y ∷ bs))) (sym (one_less n x (y ∷ bs))) (word_front y bs (and_true (ltb 1 (length (x ∷ y ∷ bs))) (is_letter y) t).1)))
     (λ _. tt)
 
 arguments_to_is : (o : Option ℕ) (b : ℕ) (bs : List ℕ) → b ≡ 40 → closing 0 (hidden 0 bs) ≡ o → IsPiece true (arguments_to o (plain_len (hidden 0 bs))) (b ∷ bs)
@@ -109,12 +110,12 @@ two_bytes (x ∷ y ∷ bs) first second long a b = ap (λ k. k ∷ y ∷ []) a �
 colons_is : (named : Bool) (bytes : List ℕ) → get_or bytes 0 0 ≡ 58 → IsPiece named (pair_at 58 kinds.Colons bytes) bytes
 unfolding pair_at
 colons_is named bytes e =
-    by_test named (ltb 1 (length bytes) && eqb (get_or bytes 1 0) 58) (Taken kinds.Colons 2) Wrong bytes (λ t. let q = both (ltb 1 (length bytes)) (eqb (get_or bytes 1 0) 58) t in two_bytes bytes 58 58 q.0 e (eqb-true _ _ q.1)) (λ _. tt)
+    by_test named (ltb 1 (length bytes) && eqb (get_or bytes 1 0) 58) (Taken kinds.Colons 2) Wrong bytes (λ t. let q = and_true (ltb 1 (length bytes)) (eqb (get_or bytes 1 0) 58) t in two_bytes bytes 58 58 q.0 e (eqb-true _ _ q.1)) (λ _. tt)
 
 arrow_is : (named : Bool) (bytes : List ℕ) → get_or bytes 0 0 ≡ 45 → IsPiece named (pair_at 62 kinds.Arrow bytes) bytes
 unfolding pair_at
 arrow_is named bytes e =
-    by_test named (ltb 1 (length bytes) && eqb (get_or bytes 1 0) 62) (Taken kinds.Arrow 2) Wrong bytes (λ t. let q = both (ltb 1 (length bytes)) (eqb (get_or bytes 1 0) 62) t in two_bytes bytes 45 62 q.0 e (eqb-true _ _ q.1)) (λ _. tt)
+    by_test named (ltb 1 (length bytes) && eqb (get_or bytes 1 0) 62) (Taken kinds.Arrow 2) Wrong bytes (λ t. let q = and_true (ltb 1 (length bytes)) (eqb (get_or bytes 1 0) 62) t in two_bytes bytes 45 62 q.0 e (eqb-true _ _ q.1)) (λ _. tt)
 
 one_byte : (bytes : List ℕ) (b : ℕ) → 0 < length bytes → eqb (get_or bytes 0 0) b ≡ true → take 1 bytes ≡ b ∷ []
 one_byte [] b long e = absurd (omega arith)

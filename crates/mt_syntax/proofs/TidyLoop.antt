@@ -3,7 +3,7 @@ use Rattle.std.proofs.Common.{◌≡◌, ℕ, suc, ◌+◌, ◌-◌, ◌<◌, �
 use Rattle.std.specs.List.{list_all}
 use Rattle.std.proofs.lemmas.List.{at_drop_more, at_drop_all, append-nil, take_more, get_or-drop}
 use Rattle.std.proofs.lemmas.Bool.Decides.{nat_tests}
-use Rattle.mt_syntax.specs.Byte.{is_white}
+use Rattle.mt_text.specs.Byte.{is_white}
 use Rattle.mt_syntax.specs.Arguments.{tidy_after, joined, tidy, onto, between_commas}
 use Rattle.mt_syntax.specs.Closing.{depth_after}
 

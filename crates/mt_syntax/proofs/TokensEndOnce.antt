@@ -9,7 +9,7 @@ use Rattle.mt_syntax.specs.declared.token.TokenKind.TheVariants as kinds
 use Rattle.mt_syntax.specs.declared.token.Token.{Token}
 use Rattle.mt_syntax.specs.declared.piece.Piece.{Piece}
 use Rattle.mt_syntax.specs.declared.piece.Piece.TheVariants.{Blank, Taken, Wrong}
-use Rattle.mt_syntax.specs.Byte.{is_white, is_letter, is_digit}
+use Rattle.mt_text.specs.Byte.{is_white, is_letter, is_digit}
 use Rattle.mt_syntax.specs.Comment.{comment_at, bare}
 use Rattle.mt_syntax.specs.Closing.{closing, plain_len}
 use Rattle.mt_syntax.specs.Piece.{name_len, word_at, digits_at, parameter_at, arguments_to, arguments_at, pair_at, mark_of, mark_at, plain_at, piece_at}

@@ -7,6 +7,7 @@ use Rattle.std.specs.Str.{bytes_eq}
 use Rattle.std.proofs.lemmas.Bool.Decides.{nat_tests}
 use Rattle.std.proofs.lemmas.List.{take-append-drop}
 use Rattle.std.proofs.lemmas.List.Sums.{prefix_len-le-length}
+use Rattle.mt_lists.proofs.Bools.{and_first}
 use Rattle.mt_syntax.specs.declared.comment.Comment.{Comment}
 use Rattle.mt_syntax.specs.declared.comment.Comment.TheVariants.{Absent, Closed, Open}
 use Rattle.mt_syntax.specs.declared.token.TokenKind.{TokenKind}
@@ -14,13 +15,14 @@ use Rattle.mt_syntax.specs.declared.token.TokenKind.TheVariants as kinds
 use Rattle.mt_syntax.specs.declared.token.Token.{Token}
 use Rattle.mt_syntax.specs.declared.piece.Piece.{Piece}
 use Rattle.mt_syntax.specs.declared.piece.Piece.TheVariants.{Blank, Taken, Wrong}
-use Rattle.mt_syntax.specs.Byte.{is_white, is_letter, is_digit, is_name_byte}
-use Rattle.mt_syntax.specs.Comment.{line_len, block_len, closed, comment_at, hidden, bare}
+use Rattle.mt_text.specs.Byte.{is_white, is_letter, is_digit, is_name_byte}
+use Rattle.mt_syntax.specs.Comment.{line_len, block_len, closed, comment_at, bare}
 use Rattle.mt_syntax.specs.Closing.{closing, depth_after, plain_len}
 use Rattle.mt_syntax.specs.Piece.{name_len, word_at, digits_at, parameter_at, arguments_to, arguments_at, pair_at, mark_of, mark_at, plain_at, piece_at, PieceWithin}
 use Rattle.mt_syntax.specs.Tokens.{is_name, token, tokens_from, tokens_in}
 use Rattle.mt_syntax.specs.Spelled.{IsBlank, IsWord, IsToken, BeginsNothing, AreTokensBehind, AreTokens}
 use Rattle.mt_syntax.specs.Spelled.AreTokensBehind.{blank, next, broken, finish}
+use Rattle.mt_syntax.proofs.HiddenComments.{length_hidden}
 use Rattle.mt_syntax.proofs.CommentsSpelled.{comment_has_byte}
 use Rattle.mt_syntax.proofs.PiecesFound.{blank_there, token_there}
 use Rattle.mt_syntax.proofs.PiecesSpelled.{IsPiece, piece_is}
@@ -40,29 +42,12 @@ digits_within : (bytes : List ℕ) → PieceWithin (length bytes) (digits_at byt
 unfolding digits_at
 digits_within bytes = omega (arith, prefix_len-le-length is_digit bytes)
 
-front_test : (a b : Bool) → (a && b) ≡ true → a ≡ true
-front_test true b e = refl
-front_test false b e = e
-
 parameter_within : (bytes : List ℕ) → PieceWithin (length bytes) (parameter_at bytes)
 unfolding parameter_at
 parameter_within bytes =
     by_test (ltb 1 (length bytes) && is_letter (get_or bytes 1 0)) (Taken kinds.Parameter (1 + name_len (drop 1 bytes))) Wrong (length bytes)
-    (λ t. let long : 1 < length bytes = (let e : ltb 1 (length bytes) ≡ true = front_test (ltb 1 (length bytes)) (is_letter (get_or bytes 1 0)) t in grind (arith, nat_tests)) in omega (arith, prefix_len-le-length is_name_byte (drop 1 bytes), length-drop 1 bytes))
+    (λ t. let long : 1 < length bytes = (let e : ltb 1 (length bytes) ≡ true = and_first (ltb 1 (length bytes)) (is_letter (get_or bytes 1 0)) t in grind (arith, nat_tests)) in omega (arith, prefix_len-le-length is_name_byte (drop 1 bytes), length-drop 1 bytes))
     (λ _. tt)
-
-hidden_zero : (b : ℕ) (bs : List ℕ) (c : Comment) → ((s : ℕ) → length (hidden s bs) ≡ length bs)
-    → length {A = Option ℕ} (elim c [ Absent ↦ Some b ∷ hidden 0 bs | Closed n ↦ None ∷ hidden (n - 1) bs | Open ↦ None ∷ hidden (length bs) bs ]) ≡ suc (length bs)
-hidden_zero b bs Absent ih = ap suc (ih 0)
-hidden_zero b bs (Closed n) ih = ap suc (ih (n - 1))
-hidden_zero b bs Open ih = ap suc (ih (length bs))
-
-hidden_length : (bytes : List ℕ) (s : ℕ) → length (hidden s bytes) ≡ length bytes
-unfolding hidden
-hidden_length [] zero = refl
-hidden_length [] (suc s) = refl
-hidden_length (b ∷ bs) (suc s) = ap suc (hidden_length bs s)
-hidden_length (b ∷ bs) zero = hidden_zero b bs (comment_at (b ∷ bs)) (hidden_length bs)
 
 abbrev pub IsUpTo : Option ℕ → ℕ → Type 0
 IsUpTo None most = Unit {0}
@@ -89,13 +74,13 @@ arguments_to_within (Some n) plain most h = omega arith
 arguments_within : (bytes : List ℕ) → 0 < length bytes → PieceWithin (length bytes) (arguments_at bytes)
 unfolding arguments_at
 arguments_within [] long = absurd (omega arith)
-arguments_within (b ∷ bs) long = arguments_to_within (closing 0 (bare bs)) (plain_len (bare bs)) (length bs) (subst (IsUpTo (closing 0 (bare bs))) (hidden_length bs 0) (closing_up_to (bare bs) 0))
+arguments_within (b ∷ bs) long = arguments_to_within (closing 0 (bare bs)) (plain_len (bare bs)) (length bs) (subst (IsUpTo (closing 0 (bare bs))) (length_hidden bs 0) (closing_up_to (bare bs) 0))
 
 pair_within : (second : ℕ) (kind : TokenKind) (bytes : List ℕ) → PieceWithin (length bytes) (pair_at second kind bytes)
 unfolding pair_at
 pair_within second kind bytes =
     by_test (ltb 1 (length bytes) && eqb (get_or bytes 1 0) second) (Taken kind 2) Wrong (length bytes)
-    (λ t. let e : ltb 1 (length bytes) ≡ true = front_test (ltb 1 (length bytes)) (eqb (get_or bytes 1 0) second) t in grind (arith, nat_tests))
+    (λ t. let e : ltb 1 (length bytes) ≡ true = and_first (ltb 1 (length bytes)) (eqb (get_or bytes 1 0) second) t in grind (arith, nat_tests))
     (λ _. tt)
 
 mark_within : (b most : ℕ) → 0 < most → PieceWithin most (mark_of b)

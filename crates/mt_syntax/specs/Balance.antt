@@ -7,6 +7,7 @@ use Rattle.mt_syntax.specs.declared.replacing.Binding.{Binding}
 use Rattle.mt_syntax.specs.Comment.{bare}
 use Rattle.mt_syntax.specs.Closing.{closing, depth_after}
 use Rattle.mt_syntax.specs.Words.{bytes_of}
+use Rattle.mt_syntax.specs.Arguments.{tidy}
 use Rattle.mt_syntax.specs.Reading.{word}
 
 -- How many parentheses are open behind a text, with so many open before it; nothing where one closes
@@ -31,6 +32,10 @@ IsOne text = commas 0 text ≡ 0
 -- a text that stays one argument wherever it stands
 abbrev pub IsWhole : List ℕ → Type 0
 IsWhole text = IsBalanced text × IsOne text
+
+-- an argument as it is kept: whole, no white space at its ends, one space for each run of it within
+abbrev pub IsTidy : List ℕ → Type 0
+IsTidy text = IsWhole text × (tidy text ≡ text)
 
 abbrev pub AreWhole : List (List ℕ) → Type 0
 AreWhole texts = AllByRecursion IsWhole texts

@@ -41,3 +41,8 @@ hidden zero (b ∷ bs) =
 
 abbrev pub bare : List ℕ → List (Option ℕ)
 bare text = hidden 0 text
+
+-- nothing is seen of these bytes
+abbrev pub nothings : List ℕ → List (Option ℕ)
+nothings [] = []
+nothings (b ∷ bs) = None ∷ nothings bs

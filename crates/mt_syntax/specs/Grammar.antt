@@ -66,7 +66,7 @@ item_of (alone t) = items.Name (word t)
 item_of (named t c u) = items.Declared (word t) (use_of u)
 item_of (made t a) = items.Made (record { class = word t; arguments = Some (word a) })
 
--- end = [ "[" NUMBER "]" ] item [ "[" NUMBER "]" ]
+-- endpoint = [ "[" NUMBER "]" ] item [ "[" NUMBER "]" ]
 pub record EndpointTree : Type 0 where
   pub input : Option PortTree
   pub item : ItemTree
@@ -81,7 +81,7 @@ IsEndpoint e = IfSome e.input IsPort × IsItem e.item × IfSome e.output IsPort
 abbrev pub endpoint_of : EndpointTree → Endpoint
 endpoint_of e = record { input = option_map port_of e.input; item = item_of e.item; output = option_map port_of e.output }
 
--- connect = end { "->" end }: a first end without an input port, then each `->` with the end behind it,
+-- connect = endpoint { "->" endpoint }: a first endpoint without an input port, then each `->` with the endpoint behind it,
 -- of which the last has no output port
 abbrev pub print_endpoints : EndpointTree → List (Token × EndpointTree) → List Token
 print_endpoints e [] = print_endpoint e

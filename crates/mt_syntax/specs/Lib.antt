@@ -1,4 +1,3 @@
-pub mod Byte
 pub mod Comment
 pub mod Closing
 pub mod Piece
@@ -14,3 +13,4 @@ pub mod Stopping
 pub mod Words
 pub mod Ascends
 pub mod Balance
+pub mod Laws

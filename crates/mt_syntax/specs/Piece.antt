@@ -7,7 +7,7 @@ use Rattle.mt_syntax.specs.declared.token.TokenKind.{TokenKind}
 use Rattle.mt_syntax.specs.declared.token.TokenKind.TheVariants as kinds
 use Rattle.mt_syntax.specs.declared.piece.Piece.{Piece}
 use Rattle.mt_syntax.specs.declared.piece.Piece.TheVariants.{Blank, Taken, Wrong}
-use Rattle.mt_syntax.specs.Byte.{is_white, is_letter, is_digit, is_name_byte}
+use Rattle.mt_text.specs.Byte.{is_white, is_letter, is_digit, is_name_byte}
 use Rattle.mt_syntax.specs.Comment.{comment_at, bare}
 use Rattle.mt_syntax.specs.Closing.{closing, plain_len}
 

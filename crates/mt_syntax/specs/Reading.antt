@@ -7,12 +7,12 @@
 --   body      = [ inner ] { ";" [ inner ] }
 --   inner     = declare | connect
 --   declare   = NAME "," NAME { "," NAME } "::" use
---   connect   = end { "->" end }
---   end       = [ "[" NUMBER "]" ] item [ "[" NUMBER "]" ]
+--   connect   = endpoint { "->" endpoint }
+--   endpoint  = [ "[" NUMBER "]" ] item [ "[" NUMBER "]" ]
 --   item      = NAME | NAME "::" use | use
 --   use       = NAME [ "(" arguments ")" ]
 --
--- The `;` behind a class may be left out. The first end of a connect has no input port and the last no
+-- The `;` behind a class may be left out. The first endpoint of a connect has no input port and the last no
 -- output port. NAME is an identifier other than `elementclass`, PARAM a `$` and an identifier.
 use Rattle.std.specs.Prelude.{◌≡◌, ℕ, zero, suc, ◌<◌, List, [], ◌∷◌, ◌++◌, length, Option, Some, None, is_some, Result, Ok, Err, Bool, true, false, if◌then◌else◌}
 use Rattle.std.specs.Option.{option_map, option_to_list}
@@ -118,14 +118,14 @@ read_item tokens = do
   name ← read_name tokens
   read_behind name.0 name.1
 
--- an end behind its input port
+-- an endpoint behind its input port
 unfoldable pub read_endpoint : Option PortNumber → List Token → Result (Endpoint × List Token) Fault
 read_endpoint input tokens = do
   item ← read_item tokens
   output ← read_port item.1
   Ok (record { input = input; item = item.0; output = output.0 }, output.1)
 
--- end = [ "[" NUMBER "]" ] item [ "[" NUMBER "]" ]
+-- endpoint = [ "[" NUMBER "]" ] item [ "[" NUMBER "]" ]
 unfoldable pub read_whole_endpoint : List Token → Result (Endpoint × List Token) Fault
 read_whole_endpoint tokens = do
   input ← read_port tokens
@@ -171,7 +171,7 @@ read_done inside (t ∷ ts) = elim t.kind [
 abbrev pub has_port : Endpoint → Bool
 has_port e = is_some e.output
 
--- the first end of a connection has no input port
+-- the first endpoint of a connection has no input port
 unfoldable pub read_first : Bool → List Token → Advanced
 read_first inside tokens = do
   found ← read_endpoint None tokens
@@ -230,7 +230,7 @@ read_begin inside (t ∷ ts) = elim t.kind [
   | _ ↦ read_done inside (t ∷ ts)
 ]
 
--- connect = end { "->" end }, of which the last has no output port
+-- connect = endpoint { "->" endpoint }, of which the last has no output port
 unfoldable pub read_after_endpoint : Bool → Bool → List Token → Advanced
 read_after_endpoint port inside [] = Err (no_token [])
 read_after_endpoint port inside (t ∷ ts) = elim t.kind [

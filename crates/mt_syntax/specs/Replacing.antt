@@ -1,10 +1,11 @@
--- Parameters in argument texts whose comments are gone.
-use Rattle.std.specs.Prelude.{ℕ, zero, suc, ◌+◌, List, [], ◌∷◌, ◌++◌, take, drop, Option, Some, None, is_some, Bool, false, ◌&&◌, not, ◌==◌, slice_index, if◌then◌else◌}
+-- Parameters in argument texts whose comments are gone: as a function, and as a relation of texts.
+use Rattle.std.specs.Prelude.{◌≡◌, ℕ, zero, suc, ◌+◌, List, [], ◌∷◌, ◌++◌, take, drop, Option, Some, None, is_some, Bool, false, ◌&&◌, not, ◌==◌, slice_index, if◌then◌else◌}
 use Rattle.std.specs.Option.{option_map}
 use Rattle.std.specs.Str.{bytes_eq}
 use Rattle.mt_syntax.specs.declared.replacing.Binding.{Binding}
-use Rattle.mt_syntax.specs.Byte.{is_letter}
+use Rattle.mt_text.specs.Byte.{is_letter}
 use Rattle.mt_syntax.specs.Piece.{name_len}
+use Rattle.mt_syntax.specs.Spelled.{IsWord}
 
 -- the argument of a parameter; of equal names the first counts
 abbrev pub argument_for : List Binding → List ℕ → Option (List ℕ)
@@ -44,3 +45,14 @@ unfoldable pub unknown_in : List Binding → List ℕ → Option ℕ
 unknown_in bindings [] = None
 unknown_in bindings (b ∷ bs) =
     if is_unknown_at bindings (b ∷ bs) then Some 0 else option_map (λ n. n + 1) (unknown_in bindings bs)
+
+-- A name that has an argument, and what stands behind it: the name does not end within a longer one.
+abbrev pub HasArgument : List Binding → List ℕ → List ℕ → List ℕ → Type 0
+HasArgument bindings name argument rest = IsWord name rest × (argument_for bindings name ≡ Some argument)
+
+-- A text with the argument in place of each `$` and name that has one, and each other byte as it is. What stands
+-- in an argument is not replaced again.
+pub data IsReplaced : List Binding → List ℕ → List ℕ → Type 0 where
+  ends : (bindings : List Binding) → IsReplaced bindings [] []
+  name : (bindings : List Binding) (name argument rest out : List ℕ) → HasArgument bindings name argument rest → IsReplaced bindings rest out → IsReplaced bindings (36 ∷ (name ++ rest)) (argument ++ out)
+  other : (bindings : List Binding) (b : ℕ) (rest out : List ℕ) → ((name argument behind : List ℕ) → b ∷ rest ≡ 36 ∷ (name ++ behind) → HasArgument bindings name argument behind → ⊥) → IsReplaced bindings rest out → IsReplaced bindings (b ∷ rest) (b ∷ out)

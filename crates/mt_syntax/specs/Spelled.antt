@@ -4,7 +4,7 @@ use Rattle.std.specs.List.{AllByRecursion}
 use Rattle.mt_syntax.specs.declared.token.TokenKind.{TokenKind}
 use Rattle.mt_syntax.specs.declared.token.TokenKind.TheVariants as kinds
 use Rattle.mt_syntax.specs.declared.token.Token.{Token}
-use Rattle.mt_syntax.specs.Byte.{is_white, is_letter, is_digit, is_name_byte}
+use Rattle.mt_text.specs.Byte.{is_white, is_letter, is_digit, is_name_byte}
 use Rattle.mt_syntax.specs.Piece.{number_of}
 use Rattle.mt_syntax.specs.Tokens.{is_name, token}
 

@@ -36,6 +36,7 @@ pub struct Advance {
     pub inside: bool,
 }
 
+// The end of a statement: `;`, in a body `}`, outside the end of the text.
 #[tactic(auto, unfolding(crate::specs::Reading::read_done))]
 fn done(inside: bool, tokens: &[Token]) -> Result<Option<(Advance, &[Token])>, Fault>
     ensures reads { Advances result (read_done inside tokens.now) }
@@ -76,6 +77,7 @@ fn done(inside: bool, tokens: &[Token]) -> Result<Option<(Advance, &[Token])>, F
     }
 }
 
+// The first endpoint of a connection, which has no input port.
 #[tactic(auto, unfolding(crate::specs::Reading::read_first))]
 fn first_endpoint(inside: bool, tokens: &[Token]) -> Result<Option<(Advance, &[Token])>, Fault>
     ensures reads { Advances result (read_first inside tokens.now) }
@@ -93,6 +95,7 @@ fn first_endpoint(inside: bool, tokens: &[Token]) -> Result<Option<(Advance, &[T
     )))
 }
 
+// The endpoint behind a `->`, of which the byte is given.
 #[tactic(auto, unfolding(crate::specs::Reading::read_next))]
 fn next_endpoint(
     arrow: usize,
@@ -127,6 +130,7 @@ fn is_at_comma(tokens: &[Token]) -> bool
     }
 }
 
+// A statement that begins with a name: the first of a declaration where a comma follows, or else of a connection.
 #[tactic(auto, unfolding(crate::specs::Reading::read_names))]
 fn names(inside: bool, tokens: &[Token]) -> Result<Option<(Advance, &[Token])>, Fault>
     ensures reads { Advances result (read_names inside tokens.now) }
@@ -147,6 +151,7 @@ fn names(inside: bool, tokens: &[Token]) -> Result<Option<(Advance, &[Token])>, 
     }
 }
 
+// A name behind the comma of a declaration.
 #[tactic(auto, unfolding(crate::specs::Reading::read_name_more))]
 fn further_name(inside: bool, tokens: &[Token]) -> Result<Option<(Advance, &[Token])>, Fault>
     ensures reads { Advances result (read_name_more inside tokens.now) }
@@ -163,6 +168,7 @@ fn further_name(inside: bool, tokens: &[Token]) -> Result<Option<(Advance, &[Tok
     )))
 }
 
+// The use behind the `::` of a declaration.
 #[tactic(auto, unfolding(crate::specs::Reading::read_made))]
 fn made(inside: bool, tokens: &[Token]) -> Result<Option<(Advance, &[Token])>, Fault>
     ensures reads { Advances result (read_made inside tokens.now) }
@@ -179,6 +185,7 @@ fn made(inside: bool, tokens: &[Token]) -> Result<Option<(Advance, &[Token])>, F
     )))
 }
 
+// Behind a name of a declaration: `,` and a further name, or `::` and the use.
 #[tactic(auto, unfolding(crate::specs::Reading::read_after_name))]
 fn after_name(inside: bool, tokens: &[Token]) -> Result<Option<(Advance, &[Token])>, Fault>
     ensures reads { Advances result (read_after_name inside tokens.now) }
@@ -194,6 +201,7 @@ fn after_name(inside: bool, tokens: &[Token]) -> Result<Option<(Advance, &[Token
     }
 }
 
+// Behind `elementclass`: the name of the compound class and its `{`.
 #[tactic(auto, unfolding(crate::specs::Reading::read_class))]
 fn class(tokens: &[Token]) -> Result<Option<(Advance, &[Token])>, Fault>
     ensures reads { Advances result (read_class tokens.now) }
@@ -211,6 +219,7 @@ fn class(tokens: &[Token]) -> Result<Option<(Advance, &[Token])>, Fault>
     )))
 }
 
+// A statement, which may be empty. A compound class may be declared only outside the bodies of others.
 #[tactic(auto, unfolding(crate::specs::Reading::read_begin))]
 fn begin(inside: bool, tokens: &[Token]) -> Result<Option<(Advance, &[Token])>, Fault>
     ensures reads { Advances result (read_begin inside tokens.now) }
@@ -231,6 +240,7 @@ fn begin(inside: bool, tokens: &[Token]) -> Result<Option<(Advance, &[Token])>, 
     }
 }
 
+// Behind an endpoint: a `->`, or the end of the statement unless an output port (`port`) is written out.
 #[tactic(auto, unfolding(crate::specs::Reading::read_after_endpoint))]
 fn after_endpoint(
     port: bool,
@@ -254,6 +264,7 @@ fn after_endpoint(
     }
 }
 
+// A parameter of a compound class.
 #[tactic(auto, unfolding(crate::specs::Reading::read_parameter))]
 fn parameter(tokens: &[Token]) -> Result<Option<(Advance, &[Token])>, Fault>
     ensures reads { Advances result (read_parameter tokens.now) }
@@ -278,6 +289,7 @@ fn parameter(tokens: &[Token]) -> Result<Option<(Advance, &[Token])>, Fault>
     }
 }
 
+// Behind a parameter: `,` and a further one, or `|`.
 #[tactic(auto, unfolding(crate::specs::Reading::read_after_parameter))]
 fn after_parameter(tokens: &[Token]) -> Result<Option<(Advance, &[Token])>, Fault>
     ensures reads { Advances result (read_after_parameter tokens.now) }
@@ -300,6 +312,7 @@ fn after_parameter(tokens: &[Token]) -> Result<Option<(Advance, &[Token])>, Faul
     }
 }
 
+// Behind the `{` of a compound class: its first parameter, or a statement.
 #[tactic(auto, unfolding(crate::specs::Reading::read_head))]
 fn head(tokens: &[Token]) -> Result<Option<(Advance, &[Token])>, Fault>
     ensures reads { Advances result (read_head tokens.now) }

@@ -1,16 +1,16 @@
 //! Argument texts: where they end, and the arguments in them.
 ghost use Rattle.std.specs.Prelude.{◌≡◌, ◌≤◌, ◌<◌, ◌^◌, min, length, IfOk, IfSome, OnOk};
 ghost use Rattle.std.specs.List.{list_all};
-ghost use Rattle.mt_syntax.specs.Byte.{is_white};
+ghost use Rattle.mt_text.specs.Byte.{is_white};
 ghost use Rattle.mt_syntax.specs.Comment.{bare};
 ghost use Rattle.mt_syntax.specs.Closing.{closing, plain_len, depth_after};
-ghost use Rattle.mt_syntax.specs.Arguments.{shown, joined, tidy, separated};
+ghost use Rattle.mt_syntax.specs.Arguments.{shown, shown_index, joined, tidy, separated};
 
-use crate::byte::is_white_byte;
 use crate::comment::{Comment, comment_of};
-use crate::text::Text;
+use mt_text::{Text, is_white_byte};
 use std::alloc::{AllocError, Global};
 
+// How many parentheses are open behind a byte.
 fn next_depth(depth: usize, byte: u8) -> usize
     requires { depth < 2 ^ 63 }
     ensures { result ≡ depth_after depth byte }
@@ -92,6 +92,33 @@ pub fn shown_of(alloc: Global, body: &[u8]) -> Result<Vec<u8>, AllocError>
         }
     }
     Ok(bytes)
+}
+
+/// Where the byte of a number stands, both counted from 0, that no comment hides; the length of the text where there
+/// are not so many.
+pub fn index_shown(body: &[u8], number: usize) -> usize
+    ensures index { result ≡ shown_index (bare body.now) number }
+    ensures within { result ≤ length body.now }
+{
+    let mut left = number;
+    let mut skip = 0;
+    for at in 0..body.len() {
+        if skip > 0 {
+            skip -= 1;
+            continue;
+        }
+        match comment_of(&body[at..]) {
+            Comment::Closed(len) => skip = len.saturating_sub(1),
+            Comment::Open => return body.len(),
+            Comment::Absent => {
+                if left == 0 {
+                    return at;
+                }
+                left -= 1;
+            }
+        }
+    }
+    body.len()
 }
 
 // Adds a byte, behind a space where white space separates it from what is there.

@@ -1,12 +1,13 @@
 //! Why a text is no configuration, and at which line and column.
-ghost use Rattle.std.specs.Prelude.{◌≡◌, ◌≤◌, length};
+ghost use Rattle.std.specs.Prelude.{◌≡◌, ◌≤◌, ◌==◌, length, count_by};
 ghost use Rattle.mt_syntax.specs.Position.{line_of, column_of, located};
 ghost use Rattle.mt_syntax.specs.declared.fault.ReadError.TheVariants.{Memory};
 
 use std::alloc::{AllocError, AllocFailed};
 use thiserror::Error;
 
-/// What is wrong with a configuration.
+/// What is wrong with a configuration. The first two are faults of reading; the six behind them come when the
+/// statements are expanded to a graph (crate `mt_click`), and stand here so that callers find all causes in one type.
 #[derive(Clone, Copy, Debug, PartialEq, Eq, Error)]
 pub enum ClickWhy {
     /// A byte that begins no token, a comment or an argument text that is not closed.
@@ -15,19 +16,19 @@ pub enum ClickWhy {
     /// A token with which what precedes begins no configuration.
     #[error("Syntax")]
     Syntax,
-    /// A class or an element that is declared a second time in its scope.
+    /// A compound class or an element that is declared a second time in its scope.
     #[error("Redeclared")]
     Redeclared,
-    /// A `$` name in an argument text that is no parameter of the class.
+    /// A `$` name in an argument text that is no parameter of the compound class.
     #[error("UnknownName")]
     UnknownName,
-    /// A use with another number of arguments than its class has parameters.
+    /// A use with another number of arguments than its compound class has parameters.
     #[error("Arity")]
     Arity,
-    /// A connection to a port that the body of the class never names.
+    /// A connection to a port that the body of the compound class never names.
     #[error("NoPort")]
     NoPort,
-    /// A class that uses itself.
+    /// A compound class that uses itself.
     #[error("Recursive")]
     Recursive,
     /// A 513th element.
@@ -110,5 +111,26 @@ pub fn fault_in(text: &[u8], fault: Fault) -> ClickFault
         why: fault.why,
         line,
         column,
+    }
+}
+
+// How many lines end in these bytes.
+fn line_feeds(bytes: &[u8]) -> usize
+    ensures { result ≡ count_by (λ b. b == 10) bytes.now }
+{
+    bytes.iter().filter(|b| **b == b'\n').count()
+}
+
+/// The line of a byte, where that of another is known: behind it only the bytes between them are looked at.
+pub fn line_from(text: &[u8], before: usize, line: u32, at: usize) -> u32
+    requires bound { length text.now ≤ 1048576 }
+    requires known { line ≡ line_of text.now before }
+    ensures { result ≡ line_of text.now at }
+{
+    if before <= at && at <= text.len() {
+        line + line_feeds(&text[before..at]) as u32
+    } else {
+        let (line, _) = line_and_column(text, at);
+        line
     }
 }

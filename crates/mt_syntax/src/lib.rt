@@ -5,25 +5,23 @@
 
 mod advance;
 mod arguments;
-mod byte;
 mod comment;
 mod fault;
+pub mod laws;
 mod phrase;
 mod piece;
 mod reading;
 mod replacing;
 mod syntax;
-mod text;
 mod token;
 mod word;
 
-pub use arguments::{arguments_of, shown_of};
+pub use arguments::{arguments_of, index_shown, shown_of};
 pub use comment::{Comment, comment_of};
-pub use fault::{ClickFault, ClickWhy, Fault, ReadError, fault_in, line_and_column};
+pub use fault::{ClickFault, ClickWhy, Fault, ReadError, fault_in, line_and_column, line_from};
 pub use phrase::{Endpoint, Item, Phrase, PortNumber, Use};
 pub use replacing::{Binding, first_unknown, replaced};
 pub use syntax::{phrases_of, read, statements};
-pub use text::{Text, Texts};
 pub use token::{Token, TokenKind, tokens_of};
 pub use word::{Word, inner_bytes, word_bytes};
 

@@ -1,7 +1,7 @@
 //! The phrases that a configuration is, in the order of the text, and what they are made of.
 use crate::word::Word;
 
-/// A class, with its argument text where it has one.
+/// A class, an element class or a compound class, with its argument text where it has one.
 #[derive(Clone, Copy, Debug, PartialEq, Eq)]
 pub struct Use {
     pub class: Word,
@@ -9,7 +9,7 @@ pub struct Use {
     pub arguments: Option<Word>,
 }
 
-/// What an end of a connection names.
+/// What an endpoint names.
 #[derive(Clone, Copy, Debug, PartialEq, Eq)]
 pub enum Item {
     /// A name alone: an element that is declared under it, or an unnamed element of that class.
@@ -20,14 +20,14 @@ pub enum Item {
     Made(Use),
 }
 
-/// A port that is written out: where its `[` stands, and its number.
+/// A port that is written out: the byte of its `[`, counted from 0, and its number.
 #[derive(Clone, Copy, Debug, PartialEq, Eq)]
 pub struct PortNumber {
     pub at: usize,
     pub number: u32,
 }
 
-/// An end of a connection, with the ports that are written out.
+/// An endpoint of a connection, with the ports that are written out; one that is left out is port 0.
 #[derive(Clone, Copy, Debug, PartialEq, Eq)]
 pub struct Endpoint {
     pub input: Option<PortNumber>,
@@ -35,21 +35,21 @@ pub struct Endpoint {
     pub output: Option<PortNumber>,
 }
 
-/// A phrase of a statement.
+/// A statement is one phrase or more; `;` and the like are none.
 #[derive(Clone, Copy, Debug, PartialEq, Eq)]
 pub enum Phrase {
-    /// The first end of a connection.
+    /// The first endpoint of a connection.
     First(Endpoint),
-    /// A further end of the connection, and where the `->` before it stands.
+    /// A further endpoint of the connection, behind the byte of the `->` before it.
     Next(usize, Endpoint),
     /// One of the names, two or more, that a declaration begins with.
     Declared(Word),
     /// The use behind the names of a declaration.
     Made(Use),
-    /// `elementclass` and a name: what follows up to `Close` is the class's.
+    /// `elementclass` and a name: what follows up to `Close` is the body of that compound class.
     Class(Word),
-    /// A parameter of the class, with its `$`.
+    /// A parameter of the compound class, with its `$`.
     Parameter(Word),
-    /// The end of the class.
+    /// The end of its body.
     Close,
 }

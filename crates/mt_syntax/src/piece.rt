@@ -1,13 +1,13 @@
-//! The piece of a text that begins at a place: white space, a comment or a token.
+//! The piece at the front of a text: white space, a comment or a token, the longest that there is.
 ghost use Rattle.std.specs.Prelude.{◌≡◌, ◌≤◌, ◌<◌, min, length, slice_index, EachIndex};
 ghost use Rattle.mt_syntax.specs.Piece.{name_len, word_at, number_of, digits_len, digits_at, parameter_at, arguments_at, pair_at, mark_of, mark_at, plain_at, piece_at, PieceWithin};
 
 use crate::arguments::{closing_length, plain_length};
-use crate::byte::{begins_name, goes_on_name, is_decimal, is_white_byte};
 use crate::comment::{Comment, comment_of};
 use crate::token::TokenKind;
+use mt_text::{begins_name, goes_on_name, is_decimal, is_white_byte};
 
-/// What begins at a place of a text.
+/// What begins at the front of a text.
 #[derive(Clone, Copy, Debug, PartialEq, Eq)]
 pub enum Piece {
     /// White space or a comment of so many bytes.
@@ -26,6 +26,7 @@ pub fn name_length(bytes: &[u8]) -> usize
     bytes.iter().take_while(|b| goes_on_name(**b)).count()
 }
 
+// An identifier, or `elementclass`, as far as it goes.
 #[tactic(auto, unfolding(crate::specs::Piece::word_at))]
 fn word_of(bytes: &[u8]) -> Piece
     ensures piece { result ≡ word_at bytes.now }
@@ -70,6 +71,7 @@ fn number_value(digits: &[u8]) -> u32
     number
 }
 
+// A number of one to nine digits.
 #[tactic(auto, unfolding(crate::specs::Piece::digits_at))]
 fn digits_of(bytes: &[u8]) -> Piece
     ensures piece { result ≡ digits_at bytes.now }
@@ -79,6 +81,7 @@ fn digits_of(bytes: &[u8]) -> Piece
     Piece::Taken(TokenKind::Number(number_value(&bytes[..len])), len)
 }
 
+// `$` and an identifier.
 #[tactic(auto, unfolding(crate::specs::Piece::parameter_at))]
 fn parameter_of(bytes: &[u8]) -> Piece
     requires { 0 < length bytes.now }
@@ -92,6 +95,7 @@ fn parameter_of(bytes: &[u8]) -> Piece
     }
 }
 
+// An argument text from its `(`.
 #[tactic(auto, unfolding(crate::specs::Piece::arguments_at))]
 fn arguments_piece(bytes: &[u8]) -> Piece
     requires { 0 < length bytes.now }
@@ -105,6 +109,7 @@ fn arguments_piece(bytes: &[u8]) -> Piece
     }
 }
 
+// A token of two bytes, of which the first is read.
 #[tactic(auto, unfolding(crate::specs::Piece::pair_at))]
 fn pair_of(second: u8, kind: TokenKind, bytes: &[u8]) -> Piece
     ensures piece { result ≡ pair_at second kind bytes.now }
@@ -135,6 +140,7 @@ fn mark(byte: u8) -> Piece
     }
 }
 
+// What begins with neither white space, letter nor digit.
 #[tactic(auto, unfolding(crate::specs::Piece::mark_at))]
 fn mark_piece(bytes: &[u8], named: bool) -> Piece
     requires { 0 < length bytes.now }
@@ -156,6 +162,7 @@ fn mark_piece(bytes: &[u8], named: bool) -> Piece
     }
 }
 
+// What begins with no comment.
 #[tactic(auto, unfolding(crate::specs::Piece::plain_at))]
 fn plain_piece(bytes: &[u8], named: bool) -> Piece
     requires { 0 < length bytes.now }

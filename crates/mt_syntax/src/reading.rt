@@ -1,4 +1,4 @@
-//! Names, uses, ports and ends, read from the front of a list of tokens. Each reader answers what it
+//! Names, uses, ports and endpoints, read from the front of a list of tokens. Each reader answers what it
 //! read and the tokens behind it, or the fault of the first token that may not stand there.
 ghost use Rattle.std.specs.Prelude.{◌≡◌, ◌<◌, ◌≤◌, length, IfOk, is_some};
 ghost use Rattle.std.specs.Option.{option_map};
@@ -9,6 +9,7 @@ use crate::phrase::{Endpoint, Item, PortNumber, Use};
 use crate::token::{Token, TokenKind};
 use crate::word::Word;
 
+/// Where a token stands.
 pub fn word_of(token: &Token) -> Word
     ensures { result ≡ word token.now }
 {
@@ -18,7 +19,7 @@ pub fn word_of(token: &Token) -> Word
     }
 }
 
-// The fault of a token that may not stand where it stands.
+// The fault of a token that may not stand where it stands. An argument text out of place is a fault of tokens.
 pub fn fault_of(token: &Token) -> Fault
     ensures { result ≡ fault_at token.now }
 {
@@ -45,6 +46,7 @@ pub fn first_fault(tokens: &[Token]) -> Fault
     }
 }
 
+/// NAME
 #[tactic(auto, unfolding(crate::specs::Reading::read_name))]
 pub fn name_of(tokens: &[Token]) -> Result<(Word, &[Token]), Fault>
     ensures reads { Reads (λ x. (x.0, x.1.now)) result (read_name tokens.now) }
@@ -59,6 +61,7 @@ pub fn name_of(tokens: &[Token]) -> Result<(Word, &[Token]), Fault>
     }
 }
 
+// [ "(" arguments ")" ]
 #[tactic(auto, unfolding(crate::specs::Reading::read_arguments))]
 fn arguments_behind(tokens: &[Token]) -> (Option<Word>, &[Token])
     ensures reads { (result.0, result.1.now) ≡ read_arguments tokens.now }
@@ -73,6 +76,7 @@ fn arguments_behind(tokens: &[Token]) -> (Option<Word>, &[Token])
     }
 }
 
+/// use = NAME [ "(" arguments ")" ]
 #[tactic(auto, unfolding(crate::specs::Reading::read_use))]
 pub fn use_of(tokens: &[Token]) -> Result<(Use, &[Token]), Fault>
     ensures reads { Reads (λ x. (x.0, x.1.now)) result (read_use tokens.now) }
@@ -83,6 +87,7 @@ pub fn use_of(tokens: &[Token]) -> Result<(Use, &[Token]), Fault>
     Ok((Use { class, arguments }, rest))
 }
 
+// NUMBER
 #[tactic(auto, unfolding(crate::specs::Reading::read_number))]
 fn number_of(tokens: &[Token]) -> Result<(u32, &[Token]), Fault>
     ensures reads { Reads (λ x. (x.0, x.1.now)) result (read_number tokens.now) }
@@ -97,6 +102,7 @@ fn number_of(tokens: &[Token]) -> Result<(u32, &[Token]), Fault>
     }
 }
 
+// "]"
 #[tactic(auto, unfolding(crate::specs::Reading::read_right))]
 fn behind_right(tokens: &[Token]) -> Result<&[Token], Fault>
     ensures reads { Reads (λ x. x.now) result (read_right tokens.now) }
@@ -111,6 +117,7 @@ fn behind_right(tokens: &[Token]) -> Result<&[Token], Fault>
     }
 }
 
+/// "{"
 #[tactic(auto, unfolding(crate::specs::Reading::read_left))]
 pub fn behind_left(tokens: &[Token]) -> Result<&[Token], Fault>
     ensures reads { Reads (λ x. x.now) result (read_left tokens.now) }
@@ -125,6 +132,7 @@ pub fn behind_left(tokens: &[Token]) -> Result<&[Token], Fault>
     }
 }
 
+// NUMBER "]", behind the `[` at a byte.
 #[tactic(auto, unfolding(crate::specs::Reading::read_inner))]
 fn port_inner(at: usize, tokens: &[Token]) -> Result<(Option<PortNumber>, &[Token]), Fault>
     ensures reads { Reads (λ x. (x.0, x.1.now)) result (read_inner at tokens.now) }
@@ -135,6 +143,7 @@ fn port_inner(at: usize, tokens: &[Token]) -> Result<(Option<PortNumber>, &[Toke
     Ok((Some(PortNumber { at, number }), rest))
 }
 
+// [ "[" NUMBER "]" ]
 #[tactic(auto, unfolding(crate::specs::Reading::read_port))]
 fn port_of(tokens: &[Token]) -> Result<(Option<PortNumber>, &[Token]), Fault>
     ensures reads { Reads (λ x. (x.0, x.1.now)) result (read_port tokens.now) }
@@ -149,6 +158,7 @@ fn port_of(tokens: &[Token]) -> Result<(Option<PortNumber>, &[Token]), Fault>
     }
 }
 
+// The use behind a name and `::`.
 #[tactic(auto, unfolding(crate::specs::Reading::read_declared))]
 fn declared_of(name: Word, tokens: &[Token]) -> Result<(Item, &[Token]), Fault>
     ensures reads { Reads (λ x. (x.0, x.1.now)) result (read_declared name tokens.now) }
@@ -158,6 +168,7 @@ fn declared_of(name: Word, tokens: &[Token]) -> Result<(Item, &[Token]), Fault>
     Ok((Item::Declared(name, made), rest))
 }
 
+// What an item has behind its first name.
 #[tactic(auto, unfolding(crate::specs::Reading::read_behind))]
 fn item_behind(name: Word, tokens: &[Token]) -> Result<(Item, &[Token]), Fault>
     ensures reads { Reads (λ x. (x.0, x.1.now)) result (read_behind name tokens.now) }
@@ -182,6 +193,7 @@ fn item_behind(name: Word, tokens: &[Token]) -> Result<(Item, &[Token]), Fault>
     }
 }
 
+// item = NAME | NAME "::" use | use
 #[tactic(auto, unfolding(crate::specs::Reading::read_item))]
 fn item_of(tokens: &[Token]) -> Result<(Item, &[Token]), Fault>
     ensures reads { Reads (λ x. (x.0, x.1.now)) result (read_item tokens.now) }
@@ -191,6 +203,7 @@ fn item_of(tokens: &[Token]) -> Result<(Item, &[Token]), Fault>
     item_behind(name, rest)
 }
 
+/// An endpoint behind its input port.
 #[tactic(auto, unfolding(crate::specs::Reading::read_endpoint))]
 pub fn endpoint_of(
     input: Option<PortNumber>,
@@ -211,6 +224,7 @@ pub fn endpoint_of(
     ))
 }
 
+/// endpoint = [ "[" NUMBER "]" ] item [ "[" NUMBER "]" ]
 #[tactic(auto, unfolding(crate::specs::Reading::read_whole_endpoint))]
 pub fn whole_endpoint_of(tokens: &[Token]) -> Result<(Endpoint, &[Token]), Fault>
     ensures reads { Reads (λ x. (x.0, x.1.now)) result (read_whole_endpoint tokens.now) }

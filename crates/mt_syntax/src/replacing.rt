@@ -3,9 +3,8 @@ ghost use Rattle.std.specs.Prelude.{◌≡◌, IfOk};
 ghost use Rattle.std.specs.Option.{option_map};
 ghost use Rattle.mt_syntax.specs.Replacing.{argument_for, is_parameter, argument_at, replaced_in, is_unknown_at, unknown_in};
 
-use crate::byte::begins_name;
 use crate::piece::name_length;
-use crate::text::Text;
+use mt_text::{Text, begins_name};
 use std::alloc::{AllocError, Global};
 
 /// A parameter of a class, without its `$`, and the argument that a use gives it.

@@ -14,6 +14,7 @@ use crate::phrase::Phrase;
 use crate::token::{Token, tokens_of};
 use std::alloc::{AllocError, Global};
 
+// Adds the phrase that an advance has, if any.
 fn push_phrase(phrases: &mut Vec<Phrase>, phrase: Option<Phrase>) -> Result<(), AllocError>
     ensures { OnOk result (phrases.new.items ≡ phrases.old.items ++ option_to_list phrase) }
 {
@@ -26,6 +27,7 @@ fn push_phrase(phrases: &mut Vec<Phrase>, phrase: Option<Phrase>) -> Result<(), 
     }
 }
 
+// Advances until the text ends. Each advance takes a token at least.
 fn collect(alloc: Global, tokens: &[Token]) -> Result<Vec<Phrase>, ReadError>
     ensures { Gives (λ v. v.items) result (phrases_of_tokens tokens.now) }
 {
@@ -68,7 +70,7 @@ pub fn read(alloc: Global, text: &[u8]) -> Result<Vec<Phrase>, ReadError>
     phrases_of(alloc, &tokens)
 }
 
-/// The statements of a text, phrase by phrase, or its first fault of reading: the earliest place at which
+/// The statements of a text, phrase by phrase, or its first fault of reading: the earliest byte at which
 /// the text has no token (Lex), or a token with which what precedes begins no configuration (Syntax).
 pub fn statements(alloc: Global, text: &[u8]) -> Result<Vec<Phrase>, ClickFault>
     requires { length text.now ≤ 1048576 }

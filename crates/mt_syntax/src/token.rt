@@ -44,7 +44,7 @@ pub enum TokenKind {
     Finish,
 }
 
-/// A token with its place: its bytes are those of the text from `from` up to before `to`, counted
+/// A token and where it stands: its bytes are those of the text from `from` up to before `to`, counted
 /// from 0.
 #[derive(Clone, Copy, Debug, PartialEq, Eq)]
 pub struct Token {
@@ -53,12 +53,14 @@ pub struct Token {
     pub to: usize,
 }
 
+// Whether an argument text may stand behind a token of this kind.
 fn is_name_kind(kind: TokenKind) -> bool
     ensures { result ≡ is_name kind }
 {
     matches!(kind, TokenKind::Name)
 }
 
+// Piece after piece, from the front of the text. A piece is passed over byte by byte.
 fn scan(alloc: Global, text: &[u8]) -> Result<Vec<Token>, AllocError>
     ensures { IfOk result (λ v. v.items ≡ tokens_in text.now) }
 {
@@ -98,9 +100,9 @@ fn scan(alloc: Global, text: &[u8]) -> Result<Vec<Token>, AllocError>
 }
 
 /// The tokens of a text, in order. The last is `Finish` at the end of the text, or `Broken` at the
-/// first place at which the text has no token.
+/// first byte at which the text has no token.
 pub fn tokens_of(alloc: Global, text: &[u8]) -> Result<Vec<Token>, AllocError>
-    // Which tokens they are: each is the longest that its place has.
+    // Which tokens they are: each is the longest that can stand there.
     ensures tokens { IfOk result (λ v. v.items ≡ tokens_in text.now) }
     // The text is these tokens, each behind white space and comments.
     ensures spelled { IfOk result (λ v. AreTokens 0 text.now v.items) }

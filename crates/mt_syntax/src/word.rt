@@ -2,7 +2,7 @@
 ghost use Rattle.std.specs.Prelude.{◌≡◌, ◌<◌, ◌≤◌, length, IfSome};
 ghost use Rattle.mt_syntax.specs.Words.{bytes_of, inner};
 
-/// A piece of the text: the bytes from `from` up to before `to`, counted from 0.
+/// The bytes of a text from `from` up to before `to`, counted from 0.
 #[derive(Clone, Copy, Debug, PartialEq, Eq)]
 pub struct Word {
     pub from: usize,
