@@ -1,6 +1,5 @@
 mod Ends
 mod Faults
-mod Numbers
 mod Read
 mod Rows
 mod Signs

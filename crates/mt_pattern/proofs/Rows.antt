@@ -6,12 +6,14 @@ use Rattle.mt_pattern.specs.declared.pattern.Pattern.{Pattern}
 use Rattle.mt_pattern.specs.declared.pattern.Pattern.TheVariants as pattern
 use Rattle.mt_pattern.specs.declared.test.Test.TheVariants as test
 use Rattle.mt_pattern.specs.Lexis.{Token, tokens_of, tokens_from, token_len, word_len, ends_word_at}
-use Rattle.mt_pattern.specs.Kind.{kind_of, operator_of, head_of, part_of}
-use Rattle.mt_pattern.specs.Number.{span, prefix_at, prefix_of, prefix_span, ports_at, ports_of, number_up_to, number_of, hexadecimal_of, hexadecimal_value, decimal_of, decimal_up_to, decimal_value, address_of}
+use Rattle.mt_pattern.specs.Keyword.{keyword_of, operator_of, head_of, detail_of}
+use Rattle.mt_text.specs.Number.{number_up_to, number_of, hexadecimal_of, hexadecimal_value, decimal_of, decimal_up_to, decimal_value}
+use Rattle.mt_text.specs.Address.{ipv4_address_of}
+use Rattle.mt_pattern.specs.Span.{span, prefix_at, prefix_of, prefix_span, ports_at, ports_of}
 use Rattle.mt_pattern.specs.Test.{next_word, first_word, further_word}
 use Rattle.mt_pattern.specs.Forms as form
 use Rattle.mt_pattern.specs.Shape.{within}
-use Rattle.mt_pattern.specs.Parser.{parse_of, run, step_of, part_step, opens, joined, finish_of, tight, loose, to_either}
+use Rattle.mt_pattern.specs.Parser.{parse_of, run, step_of, partial_step, opens, joined, finish_of, tight, loose, to_either}
 use Rattle.mt_pattern.specs.Grammar.{One, Spells, tested, negation, one, and, both, or, IsPattern, IsWrongAt}
 use Rattle.mt_pattern.proofs.Faults.{refused_is_wrong}
 
@@ -40,11 +42,11 @@ unfolding number_of decimal_of
 ten_digits = refl
 
 prefix_of_length_0 : prefix_of (codes "10.0.0.5/0") ≡ Some (span 0 4294967295)
-unfolding prefix_at prefix_span address_of decimal_up_to decimal_of decimal_value
+unfolding prefix_at prefix_span ipv4_address_of decimal_up_to decimal_of decimal_value
 prefix_of_length_0 = refl
 
 address_alone : prefix_of (codes "10.0.0.5") ≡ Some (span 167772165 167772165)
-unfolding prefix_at address_of decimal_up_to decimal_of decimal_value
+unfolding prefix_at ipv4_address_of decimal_up_to decimal_of decimal_value
 address_alone = refl
 
 range : ports_of (codes "80-90") ≡ Some (span 80 90)
@@ -61,27 +63,27 @@ abbrev protocol : ℕ → Pattern
 protocol number = within field.Proto number number
 
 udp : (at : ℕ) → Spells One (token at (codes "udp") ∷ []) (protocol 17)
-unfolding kind_of operator_of head_of
+unfolding keyword_of operator_of head_of
 udp at = tested (token at (codes "udp") ∷ []) (test.Value field.Proto (span 17 17)) (form.udp (token at (codes "udp")) refl)
 
 tcp : (at : ℕ) → Spells One (token at (codes "tcp") ∷ []) (protocol 6)
-unfolding kind_of operator_of head_of
+unfolding keyword_of operator_of head_of
 tcp at = tested (token at (codes "tcp") ∷ []) (test.Value field.Proto (span 6 6)) (form.tcp (token at (codes "tcp")) refl)
 
 icmp : (at : ℕ) → Spells One (token at (codes "icmp") ∷ []) (protocol 1)
-unfolding kind_of operator_of head_of
+unfolding keyword_of operator_of head_of
 icmp at = tested (token at (codes "icmp") ∷ []) (test.Value field.Proto (span 1 1)) (form.icmp (token at (codes "icmp")) refl)
 
-or_is_or : (at : ℕ) → kind_of (token at (codes "or")).word ≡ Rattle.mt_pattern.specs.declared.kind.Kind.TheVariants.Or
-unfolding kind_of operator_of
+or_is_or : (at : ℕ) → keyword_of (token at (codes "or")).word ≡ Rattle.mt_pattern.specs.declared.keyword.Keyword.TheVariants.Or
+unfolding keyword_of operator_of
 or_is_or at = refl
 
-and_is_and : (at : ℕ) → kind_of (token at (codes "and")).word ≡ Rattle.mt_pattern.specs.declared.kind.Kind.TheVariants.And
-unfolding kind_of operator_of
+and_is_and : (at : ℕ) → keyword_of (token at (codes "and")).word ≡ Rattle.mt_pattern.specs.declared.keyword.Keyword.TheVariants.And
+unfolding keyword_of operator_of
 and_is_and at = refl
 
-not_is_not : (at : ℕ) → kind_of (token at (codes "!")).word ≡ Rattle.mt_pattern.specs.declared.kind.Kind.TheVariants.Not
-unfolding kind_of operator_of
+not_is_not : (at : ℕ) → keyword_of (token at (codes "!")).word ≡ Rattle.mt_pattern.specs.declared.keyword.Keyword.TheVariants.Not
+unfolding keyword_of operator_of
 not_is_not at = refl
 
 -- `and` binds tighter than `or`
@@ -103,9 +105,9 @@ not_not_tcp =
 -- where texts go wrong
 
 wrong_word : IsWrongAt (codes "tcp or foo") 7
-unfolding parse_of run step_of part_step opens joined tight loose to_either tokens_of tokens_from token_len word_len ends_word_at kind_of operator_of head_of part_of next_word first_word further_word
+unfolding parse_of run step_of partial_step opens joined tight loose to_either tokens_of tokens_from token_len word_len ends_word_at keyword_of operator_of head_of detail_of next_word first_word further_word
 wrong_word = refused_is_wrong (codes "tcp or foo") 7 refl
 
 wrong_end : IsWrongAt (codes "(tcp ") 5
-unfolding parse_of run step_of part_step opens finish_of tight loose to_either tokens_of tokens_from token_len word_len ends_word_at kind_of operator_of head_of part_of next_word first_word further_word
+unfolding parse_of run step_of partial_step opens finish_of tight loose to_either tokens_of tokens_from token_len word_len ends_word_at keyword_of operator_of head_of detail_of next_word first_word further_word
 wrong_end = refused_is_wrong (codes "(tcp ") 5 refl

@@ -8,7 +8,7 @@ use Rattle.std.proofs.Math.Nat.{div-add-mod, mul_comm}
 use Rattle.mt_pattern.specs.declared.test.Relation.{Relation}
 use Rattle.mt_pattern.specs.declared.test.Relation.TheVariants.{More, Less, AtLeast, AtMost}
 use Rattle.mt_pattern.specs.Meaning.{contains_number}
-use Rattle.mt_pattern.specs.Number.{span, prefix_span}
+use Rattle.mt_pattern.specs.Span.{span, prefix_span}
 use Rattle.mt_pattern.specs.Test.{related}
 use Rattle.mt_pattern.specs.Forms.{IsRelated, IsIn}
 

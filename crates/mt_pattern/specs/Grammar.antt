@@ -4,10 +4,10 @@
 use Rattle.std.specs.Prelude.{◌≡◌, ℕ, List, [], ◌∷◌, ◌++◌, length}
 use Rattle.mt_pattern.specs.declared.pattern.Pattern.{Pattern}
 use Rattle.mt_pattern.specs.declared.pattern.Pattern.TheVariants as pattern
-use Rattle.mt_pattern.specs.declared.kind.Kind.TheVariants as word
+use Rattle.mt_pattern.specs.declared.keyword.Keyword.TheVariants as word
 use Rattle.mt_pattern.specs.declared.test.Test.{Test}
 use Rattle.mt_pattern.specs.Lexis.{Token, tokens_of, AreTokens}
-use Rattle.mt_pattern.specs.Kind.{kind_of}
+use Rattle.mt_pattern.specs.Keyword.{keyword_of}
 use Rattle.mt_pattern.specs.Forms.{IsTest}
 use Rattle.mt_pattern.specs.Shape.{pattern_of}
 
@@ -19,14 +19,14 @@ pub data Level : Type 0 where
 -- these tokens are spelled at that level, and stand for that pattern
 pub data Spells : Level → List Token → Pattern → Type 0 where
   tested : (tokens : List Token) (found : Test) → IsTest tokens found → Spells One tokens (pattern_of found)
-  negation : (sign : Token) (tokens : List Token) (p : Pattern) → kind_of sign.word ≡ word.Not → Spells One tokens p → Spells One (sign ∷ tokens) (pattern.Not p)
-  group : (opening closing : Token) (tokens : List Token) (p : Pattern) → kind_of opening.word ≡ word.Open → kind_of closing.word ≡ word.Close
+  negation : (sign : Token) (tokens : List Token) (p : Pattern) → keyword_of sign.word ≡ word.Not → Spells One tokens p → Spells One (sign ∷ tokens) (pattern.Not p)
+  group : (opening closing : Token) (tokens : List Token) (p : Pattern) → keyword_of opening.word ≡ word.Open → keyword_of closing.word ≡ word.Close
       → Spells Either tokens p → Spells One (opening ∷ (tokens ++ closing ∷ [])) p
   one : (tokens : List Token) (p : Pattern) → Spells One tokens p → Spells Both tokens p
-  and : (sign : Token) (before after : List Token) (p q : Pattern) → kind_of sign.word ≡ word.And
+  and : (sign : Token) (before after : List Token) (p q : Pattern) → keyword_of sign.word ≡ word.And
       → Spells Both before p → Spells One after q → Spells Both (before ++ sign ∷ after) (pattern.And p q)
   both : (tokens : List Token) (p : Pattern) → Spells Both tokens p → Spells Either tokens p
-  or : (sign : Token) (before after : List Token) (p q : Pattern) → kind_of sign.word ≡ word.Or
+  or : (sign : Token) (before after : List Token) (p q : Pattern) → keyword_of sign.word ≡ word.Or
       → Spells Either before p → Spells Both after q → Spells Either (before ++ sign ∷ after) (pattern.Or p q)
 
 -- these tokens are a pattern

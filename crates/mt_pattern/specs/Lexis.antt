@@ -2,10 +2,7 @@
 -- `||`, `&&`, `>=`, `<=`, `>` or `<`, or a word, which runs up to white space or to the next sign.
 use Rattle.std.specs.Prelude.{◌≡◌, ℕ, zero, suc, ◌+◌, Bool, ◌&&◌, ◌||◌, ◌==◌, nat_lt, if◌then◌else◌, List, [], ◌∷◌, length, take, drop, slice_index}
 use Rattle.std.specs.List.{prefix_len}
-
--- space, tab, line feed, carriage return
-abbrev pub is_space : ℕ → Bool
-is_space byte = byte == 32 || byte == 9 || byte == 10 || byte == 13
+use Rattle.mt_text.specs.Byte.{is_white}
 
 -- the length of the sign that begins with these two bytes, 0 where none does
 abbrev pub sign_of : ℕ → ℕ → ℕ
@@ -20,7 +17,7 @@ sign_len text = sign_of (slice_index text 0) (slice_index text 1)
 
 -- white space or a sign stands at the front
 unfoldable pub ends_word_at : List ℕ → Bool
-ends_word_at text = is_space (slice_index text 0) || nat_lt 0 (sign_len text)
+ends_word_at text = is_white (slice_index text 0) || nat_lt 0 (sign_len text)
 
 -- the length of the word at the front
 unfoldable pub word_len : List ℕ → ℕ
@@ -36,19 +33,19 @@ pub record Token : Type 0 where
   pub at : ℕ
   pub word : List ℕ
 
--- the place of the first token from a place on, or the length of the text
-abbrev pub next_place : List ℕ → ℕ → ℕ
-next_place text place = place + prefix_len is_space (drop place text)
+-- the offset of the first token from a offset on, or the length of the text
+abbrev pub next_offset : List ℕ → ℕ → ℕ
+next_offset text offset = offset + prefix_len is_white (drop offset text)
 
--- the token at a place
+-- the token at a offset
 abbrev pub token_at : List ℕ → ℕ → Token
-token_at text place = record { at = place; word = take (token_len (drop place text)) (drop place text) }
+token_at text offset = record { at = offset; word = take (token_len (drop offset text)) (drop offset text) }
 
--- the tokens of a text from a place on, at most so many
+-- the tokens of a text from a offset on, at most so many
 unfoldable pub tokens_from : ℕ → List ℕ → ℕ → List Token
-tokens_from zero text place = []
-tokens_from (suc most) text place =
-    let here = next_place text place in
+tokens_from zero text offset = []
+tokens_from (suc most) text offset =
+    let here = next_offset text offset in
     if here == length text then []
     else token_at text here ∷ tokens_from most text (here + token_len (drop here text))
 

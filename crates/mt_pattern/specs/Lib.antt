@@ -1,11 +1,10 @@
 pub mod Cause
 pub mod Forms
 pub mod Grammar
-pub mod Kind
+pub mod Keyword
 pub mod Lexis
 pub mod Meaning
-pub mod Number
 pub mod Parser
-pub mod Parts
 pub mod Shape
+pub mod Span
 pub mod Test

@@ -11,7 +11,7 @@ use Rattle.mt_pattern.specs.declared.test.Transport.{Transport}
 use Rattle.mt_pattern.specs.declared.test.Transport.TheVariants.{Unnamed, Tcp, Udp}
 use Rattle.mt_pattern.specs.declared.test.Test.{Test}
 use Rattle.mt_pattern.specs.declared.test.Test.TheVariants.{Always, Never, Value, Address, Ports, Fragment, Unfragmented}
-use Rattle.mt_pattern.specs.Number.{span}
+use Rattle.mt_pattern.specs.Span.{span}
 
 abbrev pub within : Field → ℕ → ℕ → Pattern
 within field lo hi = Within field (span lo hi)

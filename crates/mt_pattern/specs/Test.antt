@@ -3,8 +3,8 @@ use Rattle.std.specs.Prelude.{ℕ, ◌+◌, ◌-◌, ◌==◌, if◌then◌else�
 use Rattle.mt_packet.specs.declared.field.Field.{Field}
 use Rattle.mt_packet.specs.declared.field.Field.TheVariants as field
 use Rattle.mt_packet.specs.declared.span.Span.{Span}
-use Rattle.mt_pattern.specs.declared.kind.Kind.{Kind}
-use Rattle.mt_pattern.specs.declared.kind.Kind.TheVariants as word
+use Rattle.mt_pattern.specs.declared.keyword.Keyword.{Keyword}
+use Rattle.mt_pattern.specs.declared.keyword.Keyword.TheVariants as word
 use Rattle.mt_pattern.specs.declared.test.Sides.{Sides}
 use Rattle.mt_pattern.specs.declared.test.Sides.TheVariants.{Source, Destination, Either}
 use Rattle.mt_pattern.specs.declared.test.Transport.{Transport}
@@ -13,57 +13,59 @@ use Rattle.mt_pattern.specs.declared.test.Relation.{Relation}
 use Rattle.mt_pattern.specs.declared.test.Relation.TheVariants.{More, Less, AtLeast, AtMost}
 use Rattle.mt_pattern.specs.declared.test.Test.{Test}
 use Rattle.mt_pattern.specs.declared.test.Test.TheVariants as test
-use Rattle.mt_pattern.specs.declared.test.Place.{Place}
-use Rattle.mt_pattern.specs.declared.test.Place.TheVariants as place
+use Rattle.mt_pattern.specs.declared.test.Stage.{Stage}
+use Rattle.mt_pattern.specs.declared.test.Stage.TheVariants as stage
 use Rattle.mt_pattern.specs.declared.test.More.{More as Further}
 use Rattle.mt_pattern.specs.declared.test.More.TheVariants as further
 use Rattle.mt_pattern.specs.declared.test.Next.{Next}
 use Rattle.mt_pattern.specs.declared.test.Next.TheVariants.{Wrong, On, Whole}
-use Rattle.mt_pattern.specs.Number.{span, number_up_to, address_of, prefix_of, ports_of}
+use Rattle.mt_text.specs.Number.{number_up_to}
+use Rattle.mt_text.specs.Address.{ipv4_address_of}
+use Rattle.mt_pattern.specs.Span.{span, prefix_of, ports_of}
 
 -- the field has this value
 abbrev pub equal_to : Field → ℕ → Test
 equal_to field number = test.Value field (span number number)
 
 -- the first word of a test
-unfoldable pub first_word : Kind → Next
+unfoldable pub first_word : Keyword → Next
 first_word word.Always = Whole test.Always further.Nothing
-first_word word.Src = On (place.Side Source)
-first_word word.Dst = On (place.Side Destination)
-first_word word.Host = On (place.Host Either)
-first_word word.Net = On (place.Net Either)
-first_word word.Port = On (place.Port Either transport.Unnamed)
+first_word word.Src = On (stage.Side Source)
+first_word word.Dst = On (stage.Side Destination)
+first_word word.Host = On (stage.Host Either)
+first_word word.Net = On (stage.Net Either)
+first_word word.Port = On (stage.Port Either transport.Unnamed)
 first_word word.Tcp = Whole (equal_to field.Proto 6) further.Tcp
 first_word word.Udp = Whole (equal_to field.Proto 17) further.Udp
 first_word word.Icmp = Whole (equal_to field.Proto 1) further.Icmp
-first_word word.Ip = On place.Ip
+first_word word.Ip = On stage.Ip
 first_word _ = Wrong
 
 -- behind `src` or `dst`
-unfoldable pub after_side : Sides → Kind → Next
-after_side sides word.Host = On (place.Host sides)
-after_side sides word.Net = On (place.Net sides)
-after_side sides word.Port = On (place.Port sides transport.Unnamed)
-after_side sides word.Tcp = On (place.Transport sides transport.Tcp)
-after_side sides word.Udp = On (place.Transport sides transport.Udp)
+unfoldable pub after_side : Sides → Keyword → Next
+after_side sides word.Host = On (stage.Host sides)
+after_side sides word.Net = On (stage.Net sides)
+after_side sides word.Port = On (stage.Port sides transport.Unnamed)
+after_side sides word.Tcp = On (stage.Transport sides transport.Tcp)
+after_side sides word.Udp = On (stage.Transport sides transport.Udp)
 after_side sides _ = Wrong
 
 -- behind `src tcp` and the like
-unfoldable pub after_transport : Sides → Transport → Kind → Next
-after_transport sides protocol word.Port = On (place.Port sides protocol)
+unfoldable pub after_transport : Sides → Transport → Keyword → Next
+after_transport sides protocol word.Port = On (stage.Port sides protocol)
 after_transport sides protocol _ = Wrong
 
 -- behind `ip`
-unfoldable pub after_ip : Kind → Next
-after_ip word.Proto = On (place.Number field.Proto 255)
-after_ip word.Dscp = On (place.Number field.Dscp 63)
-after_ip word.Ttl = On place.Ttl
+unfoldable pub after_ip : Keyword → Next
+after_ip word.Proto = On (stage.Number field.Proto 255)
+after_ip word.Dscp = On (stage.Number field.Dscp 63)
+after_ip word.Ttl = On stage.Ttl
 after_ip word.Frag = Whole test.Fragment further.Nothing
 after_ip word.Unfrag = Whole test.Unfragmented further.Nothing
 after_ip _ = Wrong
 
 -- the flag that a word names
-unfoldable pub tcp_flag : Kind → Option Field
+unfoldable pub tcp_flag : Keyword → Option Field
 tcp_flag word.Syn = Some field.Syn
 tcp_flag word.Ack = Some field.Ack
 tcp_flag word.Fin = Some field.Fin
@@ -75,10 +77,10 @@ flag_test None = Wrong
 flag_test (Some flag) = Whole (equal_to flag 1) further.Nothing
 
 -- behind `tcp opt`
-unfoldable pub after_option : Kind → Next
-after_option kind = flag_test (tcp_flag kind)
+unfoldable pub after_option : Keyword → Next
+after_option keyword = flag_test (tcp_flag keyword)
 
-unfoldable pub relation_of : Kind → Option Relation
+unfoldable pub relation_of : Keyword → Option Relation
 relation_of word.More = Some More
 relation_of word.Less = Some Less
 relation_of word.AtLeast = Some AtLeast
@@ -107,7 +109,7 @@ number_test field greatest word = option_map (λ n. equal_to field n) (number_up
 
 -- behind `host`
 unfoldable pub host_test : Sides → List ℕ → Option Test
-host_test sides word = option_map (λ address. test.Address sides (span address address)) (address_of word)
+host_test sides word = option_map (λ address. test.Address sides (span address address)) (ipv4_address_of word)
 
 -- behind `net`
 unfoldable pub net_test : Sides → List ℕ → Option Test
@@ -127,35 +129,35 @@ unfoldable pub related_ttl : Relation → List ℕ → Option Test
 related_ttl relation word =
     option_map (λ ttl. test_or_never (λ values. test.Value field.Ttl values) (related relation ttl 255)) (number_up_to 255 word)
 
-abbrev pub on_or_whole : (Relation → Place) → Option Relation → Option Test → Next
+abbrev pub on_or_whole : (Relation → Stage) → Option Relation → Option Test → Next
 on_or_whole make None found = whole found
 on_or_whole make (Some relation) found = On (make relation)
 
-unfoldable pub after_port : Sides → Transport → Kind → List ℕ → Next
-after_port sides protocol kind word = on_or_whole (λ relation. place.PortRelation sides protocol relation) (relation_of kind) (ports_test sides protocol word)
+unfoldable pub after_port : Sides → Transport → Keyword → List ℕ → Next
+after_port sides protocol keyword word = on_or_whole (λ relation. stage.PortRelation sides protocol relation) (relation_of keyword) (ports_test sides protocol word)
 
-unfoldable pub after_ttl : Kind → List ℕ → Next
-after_ttl kind word = on_or_whole (λ relation. place.TtlRelation relation) (relation_of kind) (number_test field.Ttl 255 word)
+unfoldable pub after_ttl : Keyword → List ℕ → Next
+after_ttl keyword word = on_or_whole (λ relation. stage.TtlRelation relation) (relation_of keyword) (number_test field.Ttl 255 word)
 
 -- what the next word makes of a test that is read so far
-unfoldable pub next_word : Place → Kind → List ℕ → Next
-next_word place.Start kind word = first_word kind
-next_word (place.Side sides) kind word = after_side sides kind
-next_word (place.Transport sides protocol) kind word = after_transport sides protocol kind
-next_word (place.Host sides) kind word = whole (host_test sides word)
-next_word (place.Net sides) kind word = whole (net_test sides word)
-next_word (place.Port sides protocol) kind word = after_port sides protocol kind word
-next_word (place.PortRelation sides protocol relation) kind word = whole (related_ports sides protocol relation word)
-next_word place.Ip kind word = after_ip kind
-next_word (place.Number field greatest) kind word = whole (number_test field greatest word)
-next_word place.Ttl kind word = after_ttl kind word
-next_word (place.TtlRelation relation) kind word = whole (related_ttl relation word)
-next_word place.TcpOption kind word = after_option kind
+unfoldable pub next_word : Stage → Keyword → List ℕ → Next
+next_word stage.Start keyword word = first_word keyword
+next_word (stage.Side sides) keyword word = after_side sides keyword
+next_word (stage.Transport sides protocol) keyword word = after_transport sides protocol keyword
+next_word (stage.Host sides) keyword word = whole (host_test sides word)
+next_word (stage.Net sides) keyword word = whole (net_test sides word)
+next_word (stage.Port sides protocol) keyword word = after_port sides protocol keyword word
+next_word (stage.PortRelation sides protocol relation) keyword word = whole (related_ports sides protocol relation word)
+next_word stage.Ip keyword word = after_ip keyword
+next_word (stage.Number field greatest) keyword word = whole (number_test field greatest word)
+next_word stage.Ttl keyword word = after_ttl keyword word
+next_word (stage.TtlRelation relation) keyword word = whole (related_ttl relation word)
+next_word stage.TcpOption keyword word = after_option keyword
 
 -- where a test that is whole goes on: `tcp port`, `tcp opt`, `udp port`, `icmp type`
-unfoldable pub further_word : Further → Kind → Option Place
-further_word further.Tcp word.Port = Some (place.Port Either transport.Tcp)
-further_word further.Tcp word.Opt = Some place.TcpOption
-further_word further.Udp word.Port = Some (place.Port Either transport.Udp)
-further_word further.Icmp word.MessageType = Some (place.Number field.IcmpType 255)
+unfoldable pub further_word : Further → Keyword → Option Stage
+further_word further.Tcp word.Port = Some (stage.Port Either transport.Tcp)
+further_word further.Tcp word.Opt = Some stage.TcpOption
+further_word further.Udp word.Port = Some (stage.Port Either transport.Udp)
+further_word further.Icmp word.MessageType = Some (stage.Number field.IcmpType 255)
 further_word _ _ = None

@@ -4,7 +4,7 @@ ghost use Rattle.std.specs.Prelude.{◌≡◌, ◌↔◌, ◌≤◌, ◌/◌, �
 ghost use Rattle.mt_pattern.specs.Forms.{IsRelated, IsIn};
 ghost use Rattle.mt_pattern.specs.Grammar.{IsPattern, IsWrongAt};
 ghost use Rattle.mt_pattern.specs.Meaning.{contains_number};
-ghost use Rattle.mt_pattern.specs.Number.{prefix_span};
+ghost use Rattle.mt_pattern.specs.Span.{prefix_span};
 ghost use Rattle.mt_pattern.specs.Parser.{parse_of};
 ghost use Rattle.mt_pattern.specs.Test.{related};
 ghost use Rattle.mt_pattern.specs.declared.pattern.Pattern.{Pattern};

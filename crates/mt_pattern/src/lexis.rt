@@ -1,28 +1,24 @@
 //! How a text falls into tokens.
 ghost use Rattle.std.specs.Prelude.{◌≡◌, ◌≤◌, ◌<◌, ◌+◌, length, drop, slice_index};
 ghost use Rattle.std.specs.List.{prefix_len};
-ghost use Rattle.mt_pattern.specs.Lexis.{is_space, sign_of, sign_len, ends_word_at, word_len, token_len, next_place, token_at};
+ghost use Rattle.mt_pattern.specs.Lexis.{sign_of, sign_len, ends_word_at, word_len, token_len, next_offset, token_at};
+ghost use Rattle.mt_text.specs.Byte.{is_white};
 
-/// Space, tab, line feed and carriage return stand between tokens.
-fn is_space(byte: u8) -> bool
-    ensures { result ≡ is_space byte }
-{
-    matches!(byte, b' ' | b'\t' | b'\n' | b'\r')
-}
+use mt_text::is_white_byte;
 
 /// How much white space stands at the front.
 fn space_length(text: &[u8]) -> usize
-    ensures value { result ≡ prefix_len is_space text.now }
+    ensures value { result ≡ prefix_len is_white text.now }
     ensures within { result ≤ length text.now }
 {
-    text.iter().take_while(|byte| is_space(**byte)).count()
+    text.iter().take_while(|byte| is_white_byte(**byte)).count()
 }
 
-/// The byte at a place, 0 past the end.
-fn byte_at(text: &[u8], place: usize) -> u8
-    ensures { result ≡ slice_index text.now place }
+/// The byte at a offset, 0 past the end.
+fn byte_at(text: &[u8], offset: usize) -> u8
+    ensures { result ≡ slice_index text.now offset }
 {
-    if place < text.len() { text[place] } else { 0 }
+    if offset < text.len() { text[offset] } else { 0 }
 }
 
 /// The length of the sign that begins with these two bytes, 0 where none does.
@@ -55,11 +51,11 @@ fn word_length(text: &[u8]) -> usize
     ensures value { result ≡ word_len text.now }
     ensures within { result ≤ length text.now }
 {
-    let mut place = 0;
-    while place < text.len() && !ends_word(&text[place..]) {
-        place += 1;
+    let mut offset = 0;
+    while offset < text.len() && !ends_word(&text[offset..]) {
+        offset += 1;
     }
-    place
+    offset
 }
 
 /// Whether white space or a sign stands at the front.
@@ -68,7 +64,7 @@ fn ends_word(text: &[u8]) -> bool
     requires { 0 < length text.now }
     ensures { result ≡ ends_word_at text.now }
 {
-    is_space(text[0]) || sign_length(text) > 0
+    is_white_byte(text[0]) || sign_length(text) > 0
 }
 
 /// The length of the token at the front of a text that does not begin with white space.
@@ -85,24 +81,24 @@ fn token_length(text: &[u8]) -> usize
     }
 }
 
-/// The place of the first token from a place on, or the length of the text.
+/// The offset of the first token from a offset on, or the length of the text.
 #[tactic(auto, using(std::proofs::lemmas::List::take_rest))]
-pub(crate) fn next_place(text: &[u8], place: usize) -> usize
-    requires { place ≤ length text.now }
-    ensures place { result ≡ next_place text.now place }
+pub(crate) fn next_offset(text: &[u8], offset: usize) -> usize
+    requires { offset ≤ length text.now }
+    ensures offset { result ≡ next_offset text.now offset }
     ensures within { result ≤ length text.now }
 {
-    place + space_length(&text[place..])
+    offset + space_length(&text[offset..])
 }
 
-/// The token at a place where no white space stands.
+/// The token at a offset where no white space stands.
 #[tactic(auto, using(std::proofs::lemmas::List::take_rest))]
-pub(crate) fn token(text: &[u8], place: usize) -> &[u8]
-    requires { place ≤ length text.now }
-    ensures word { result.now ≡ (token_at text.now place).word }
-    ensures length { length result.now ≡ token_len (drop place text.now) }
-    ensures within { place + length result.now ≤ length text.now }
+pub(crate) fn token(text: &[u8], offset: usize) -> &[u8]
+    requires { offset ≤ length text.now }
+    ensures word { result.now ≡ (token_at text.now offset).word }
+    ensures length { length result.now ≡ token_len (drop offset text.now) }
+    ensures within { offset + length result.now ≤ length text.now }
 {
-    let rest = &text[place..];
+    let rest = &text[offset..];
     &rest[..token_length(rest)]
 }

@@ -1,24 +1,24 @@
-//! The pattern language of filters and classifiers of IP packets: what a text means, and whether a
-//! header meets it.
+//! The pattern language of filters and classifiers of IP packets. `Pattern::parse` gives the pattern that
+//! the grammar spells, or the offset at which a text goes wrong; `holds` is the meaning of a pattern on a
+//! header. Read `specs/Grammar.antt` first.
 #![tactic(auto)]
 
-pub mod address;
 mod build;
-mod fault;
-mod kind;
+mod keyword;
 pub mod laws;
 mod lexis;
 mod meaning;
-pub mod number;
 mod order;
 mod parse;
 mod parser;
 mod pattern;
+mod span;
 mod stack;
 mod test;
 #[cfg(test)]
 mod tests;
 
-pub use fault::PatternFault;
 pub use meaning::holds;
+pub use parse::PatternFault;
 pub use pattern::Pattern;
+pub use span::prefix;

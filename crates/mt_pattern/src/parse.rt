@@ -3,12 +3,21 @@ ghost use Rattle.std.specs.Prelude.{IfOk, IfErr};
 ghost use Rattle.mt_pattern.specs.Parser.{parse_of};
 ghost use Rattle.mt_pattern.specs.Cause.{IsOnlyPattern, IsCause, Tells};
 
-use crate::fault::PatternFault;
-use crate::kind::kind_of;
-use crate::lexis::{next_place, token};
+use crate::keyword::keyword_of;
+use crate::lexis::{next_offset, token};
 use crate::parser::Parser;
 use crate::pattern::Pattern;
 use std::alloc::Global;
+
+/// Why a text is no pattern.
+#[derive(Clone, Copy, Debug, PartialEq, Eq)]
+pub enum PatternFault {
+    /// The offset in bytes of the first token with which what precedes begins no pattern, or the length
+    /// of the text, where all of it begins a pattern and is none.
+    Bad(usize),
+    /// Memory ran out.
+    NoMemory,
+}
 
 impl Pattern {
     /// The pattern that a text is, in the language of IPFilter and IPClassifier. No call is kept for
@@ -19,23 +28,23 @@ impl Pattern {
         ensures read { Tells (parse_of text.now) result }
     {
         let mut parser = Parser::new(alloc);
-        let mut place = 0;
+        let mut offset = 0;
         loop {
-            place = next_place(text, place);
-            if place == text.len() {
+            offset = next_offset(text, offset);
+            if offset == text.len() {
                 return match parser.finish(alloc) {
                     Ok(Some(pattern)) => Ok(pattern),
-                    Ok(None) => Err(PatternFault::Bad(place)),
+                    Ok(None) => Err(PatternFault::Bad(offset)),
                     Err(_) => Err(PatternFault::NoMemory),
                 };
             }
-            let word = token(text, place);
-            match parser.step(alloc, kind_of(word), word) {
+            let word = token(text, offset);
+            match parser.step(alloc, keyword_of(word), word) {
                 Ok(Some(next)) => parser = next,
-                Ok(None) => return Err(PatternFault::Bad(place)),
+                Ok(None) => return Err(PatternFault::Bad(offset)),
                 Err(_) => return Err(PatternFault::NoMemory),
             }
-            place += word.len();
+            offset += word.len();
         }
     }
 }

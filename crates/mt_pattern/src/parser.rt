@@ -1,19 +1,19 @@
 //! A reader of patterns, token by token. It keeps what is open on a stack of its own.
 ghost use Rattle.std.specs.Prelude.{◌≡◌, IfOk};
-ghost use Rattle.mt_pattern.specs.Parser.{start, tight, loose, opens, opened, tested, part_step, group, joined, step_of, finish_of};
+ghost use Rattle.mt_pattern.specs.Parser.{start, tight, loose, opens, opened, tested, partial_step, group, joined, step_of, finish_of};
 
 use crate::build::{both, either, negation, pattern_of};
-use crate::kind::Kind;
+use crate::keyword::Keyword;
 use crate::pattern::Pattern;
 use crate::stack::{Open, Stack};
-use crate::test::{More, Next, Place, further_word, next_word};
+use crate::test::{More, Next, Stage, further_word, next_word};
 use std::alloc::{AllocError, Global};
 
 /// What stands behind everything that is open.
 #[derive(Drop)]
 pub(crate) enum Reading {
     /// A test is being read, or nothing.
-    Part(Place),
+    Partial(Stage),
     /// A pattern is whole, up to what it may go on with.
     Whole(Pattern, More),
 }
@@ -73,12 +73,12 @@ fn loose(alloc: Global, stack: Stack, pattern: Pattern) -> Result<Closed, AllocE
 
 /// What opens where nothing of a test is read.
 #[tactic(auto, unfolding(crate::specs::Parser::opens))]
-fn opens(place: Place, kind: Kind) -> Option<Open>
-    ensures { result ≡ opens place kind }
+fn opens(stage: Stage, keyword: Keyword) -> Option<Open>
+    ensures { result ≡ opens stage keyword }
 {
-    match (place, kind) {
-        (Place::Start, Kind::Open) => Some(Open::Group),
-        (Place::Start, Kind::Not) => Some(Open::Negation),
+    match (stage, keyword) {
+        (Stage::Start, Keyword::Open) => Some(Open::Group),
+        (Stage::Start, Keyword::Not) => Some(Open::Negation),
         _ => None,
     }
 }
@@ -89,9 +89,9 @@ fn tested(alloc: Global, stack: Stack, next: Next) -> Result<Option<Parser>, All
 {
     match next {
         Next::Wrong => Ok(None),
-        Next::On(place) => Ok(Some(Parser {
+        Next::On(stage) => Ok(Some(Parser {
             stack,
-            reading: Reading::Part(place),
+            reading: Reading::Partial(stage),
         })),
         Next::Whole(test, more) => {
             let pattern = pattern_of(alloc, test)?;
@@ -104,19 +104,19 @@ fn tested(alloc: Global, stack: Stack, next: Next) -> Result<Option<Parser>, All
 }
 
 /// The next token where a test is being read.
-#[tactic(auto, unfolding(crate::specs::Parser::part_step))]
-fn part_step(
+#[tactic(auto, unfolding(crate::specs::Parser::partial_step))]
+fn partial_step(
     alloc: Global,
     stack: Stack,
-    place: Place,
-    kind: Kind,
+    stage: Stage,
+    keyword: Keyword,
     word: &[u8],
 ) -> Result<Option<Parser>, AllocError>
-    ensures { IfOk result (λ r. r ≡ part_step stack place kind word.now) }
+    ensures { IfOk result (λ r. r ≡ partial_step stack stage keyword word.now) }
 {
-    match opens(place, kind) {
+    match opens(stage, keyword) {
         Some(last) => opened(stack, last),
-        None => tested(alloc, stack, next_word(place, kind, word)),
+        None => tested(alloc, stack, next_word(stage, keyword, word)),
     }
 }
 
@@ -128,7 +128,7 @@ fn opened(stack: Stack, last: Open) -> Result<Option<Parser>, AllocError>
     stack.push(last)?;
     Ok(Some(Parser {
         stack,
-        reading: Reading::Part(Place::Start),
+        reading: Reading::Partial(Stage::Start),
     }))
 }
 
@@ -153,20 +153,20 @@ fn joined(
     alloc: Global,
     stack: Stack,
     pattern: Pattern,
-    kind: Kind,
+    keyword: Keyword,
 ) -> Result<Option<Parser>, AllocError>
-    ensures { IfOk result (λ r. r ≡ joined stack pattern kind) }
+    ensures { IfOk result (λ r. r ≡ joined stack pattern keyword) }
 {
-    match kind {
-        Kind::And => {
+    match keyword {
+        Keyword::And => {
             let Closed { stack, pattern } = tight(alloc, stack, pattern)?;
             opened(stack, Open::Both(pattern))
         }
-        Kind::Or => {
+        Keyword::Or => {
             let Closed { stack, pattern } = loose(alloc, stack, pattern)?;
             opened(stack, Open::Either(pattern))
         }
-        Kind::Close => {
+        Keyword::Close => {
             let Closed { stack, pattern } = loose(alloc, stack, pattern)?;
             Ok(group(stack, pattern))
         }
@@ -181,7 +181,7 @@ impl Parser {
     {
         Parser {
             stack: Stack::new(alloc),
-            reading: Reading::Part(Place::Start),
+            reading: Reading::Partial(Stage::Start),
         }
     }
 
@@ -190,20 +190,20 @@ impl Parser {
     pub(crate) fn step(
         self,
         alloc: Global,
-        kind: Kind,
+        keyword: Keyword,
         word: &[u8],
     ) -> Result<Option<Parser>, AllocError>
-        ensures { IfOk result (λ r. r ≡ step_of self kind word.now) }
+        ensures { IfOk result (λ r. r ≡ step_of self keyword word.now) }
     {
         let Parser { stack, reading } = self;
         match reading {
-            Reading::Part(place) => part_step(alloc, stack, place, kind, word),
-            Reading::Whole(pattern, more) => match further_word(more, kind) {
-                Some(place) => Ok(Some(Parser {
+            Reading::Partial(stage) => partial_step(alloc, stack, stage, keyword, word),
+            Reading::Whole(pattern, more) => match further_word(more, keyword) {
+                Some(stage) => Ok(Some(Parser {
                     stack,
-                    reading: Reading::Part(place),
+                    reading: Reading::Partial(stage),
                 })),
-                None => joined(alloc, stack, pattern, kind),
+                None => joined(alloc, stack, pattern, keyword),
             },
         }
     }

@@ -2,10 +2,10 @@
 ghost use Rattle.std.specs.Prelude.{◌≡◌, ◌≤◌};
 ghost use Rattle.mt_pattern.specs.Test.{equal_to, first_word, after_side, after_ip, tcp_flag, relation_of, related, whole, number_test, host_test, net_test, ports_test, related_ports, related_ttl, after_port, after_ttl, after_transport, after_option, next_word, further_word};
 
-use crate::address::{address, ports, prefix};
-use crate::kind::Kind;
-use crate::number::number_up_to;
+use crate::keyword::Keyword;
+use crate::span::{ports, prefix};
 use mt_packet::{Field, Span};
+use mt_text::{ipv4_address, number_up_to};
 
 /// On which side of a packet a test looks.
 #[derive(Clone, Copy)]
@@ -46,7 +46,7 @@ pub(crate) enum Test {
 
 /// How far a test is read.
 #[derive(Clone, Copy)]
-pub(crate) enum Place {
+pub(crate) enum Stage {
     /// Nothing of it is read.
     Start,
     /// A direction.
@@ -91,7 +91,7 @@ pub(crate) enum Next {
     /// It is no test so far, whatever follows.
     Wrong,
     /// It goes on.
-    On(Place),
+    On(Stage),
     /// It is whole.
     Whole(Test, More),
 }
@@ -110,75 +110,75 @@ fn value(field: Field, number: u64) -> Test
 
 /// What a test makes of its first word.
 #[tactic(auto, unfolding(crate::specs::Test::first_word))]
-fn first_word(kind: Kind) -> Next
-    ensures { result ≡ first_word kind }
+fn first_word(keyword: Keyword) -> Next
+    ensures { result ≡ first_word keyword }
 {
-    match kind {
-        Kind::Always => Next::Whole(Test::Always, More::Nothing),
-        Kind::Src => Next::On(Place::Side(Sides::Source)),
-        Kind::Dst => Next::On(Place::Side(Sides::Destination)),
-        Kind::Host => Next::On(Place::Host(Sides::Either)),
-        Kind::Net => Next::On(Place::Net(Sides::Either)),
-        Kind::Port => Next::On(Place::Port(Sides::Either, Transport::Unnamed)),
-        Kind::Tcp => Next::Whole(value(Field::Proto, 6), More::Tcp),
-        Kind::Udp => Next::Whole(value(Field::Proto, 17), More::Udp),
-        Kind::Icmp => Next::Whole(value(Field::Proto, 1), More::Icmp),
-        Kind::Ip => Next::On(Place::Ip),
+    match keyword {
+        Keyword::Always => Next::Whole(Test::Always, More::Nothing),
+        Keyword::Src => Next::On(Stage::Side(Sides::Source)),
+        Keyword::Dst => Next::On(Stage::Side(Sides::Destination)),
+        Keyword::Host => Next::On(Stage::Host(Sides::Either)),
+        Keyword::Net => Next::On(Stage::Net(Sides::Either)),
+        Keyword::Port => Next::On(Stage::Port(Sides::Either, Transport::Unnamed)),
+        Keyword::Tcp => Next::Whole(value(Field::Proto, 6), More::Tcp),
+        Keyword::Udp => Next::Whole(value(Field::Proto, 17), More::Udp),
+        Keyword::Icmp => Next::Whole(value(Field::Proto, 1), More::Icmp),
+        Keyword::Ip => Next::On(Stage::Ip),
         _ => Next::Wrong,
     }
 }
 
 #[tactic(auto, unfolding(crate::specs::Test::after_side))]
-fn after_side(sides: Sides, kind: Kind) -> Next
-    ensures { result ≡ after_side sides kind }
+fn after_side(sides: Sides, keyword: Keyword) -> Next
+    ensures { result ≡ after_side sides keyword }
 {
-    match kind {
-        Kind::Host => Next::On(Place::Host(sides)),
-        Kind::Net => Next::On(Place::Net(sides)),
-        Kind::Port => Next::On(Place::Port(sides, Transport::Unnamed)),
-        Kind::Tcp => Next::On(Place::Transport(sides, Transport::Tcp)),
-        Kind::Udp => Next::On(Place::Transport(sides, Transport::Udp)),
+    match keyword {
+        Keyword::Host => Next::On(Stage::Host(sides)),
+        Keyword::Net => Next::On(Stage::Net(sides)),
+        Keyword::Port => Next::On(Stage::Port(sides, Transport::Unnamed)),
+        Keyword::Tcp => Next::On(Stage::Transport(sides, Transport::Tcp)),
+        Keyword::Udp => Next::On(Stage::Transport(sides, Transport::Udp)),
         _ => Next::Wrong,
     }
 }
 
 #[tactic(auto, unfolding(crate::specs::Test::after_ip))]
-fn after_ip(kind: Kind) -> Next
-    ensures { result ≡ after_ip kind }
+fn after_ip(keyword: Keyword) -> Next
+    ensures { result ≡ after_ip keyword }
 {
-    match kind {
-        Kind::Proto => Next::On(Place::Number(Field::Proto, 255)),
-        Kind::Dscp => Next::On(Place::Number(Field::Dscp, 63)),
-        Kind::Ttl => Next::On(Place::Ttl),
-        Kind::Frag => Next::Whole(Test::Fragment, More::Nothing),
-        Kind::Unfrag => Next::Whole(Test::Unfragmented, More::Nothing),
+    match keyword {
+        Keyword::Proto => Next::On(Stage::Number(Field::Proto, 255)),
+        Keyword::Dscp => Next::On(Stage::Number(Field::Dscp, 63)),
+        Keyword::Ttl => Next::On(Stage::Ttl),
+        Keyword::Frag => Next::Whole(Test::Fragment, More::Nothing),
+        Keyword::Unfrag => Next::Whole(Test::Unfragmented, More::Nothing),
         _ => Next::Wrong,
     }
 }
 
 /// The flag that a word names.
 #[tactic(auto, unfolding(crate::specs::Test::tcp_flag))]
-fn tcp_flag(kind: Kind) -> Option<Field>
-    ensures { result ≡ tcp_flag kind }
+fn tcp_flag(keyword: Keyword) -> Option<Field>
+    ensures { result ≡ tcp_flag keyword }
 {
-    match kind {
-        Kind::Syn => Some(Field::Syn),
-        Kind::Ack => Some(Field::Ack),
-        Kind::Fin => Some(Field::Fin),
-        Kind::Rst => Some(Field::Rst),
+    match keyword {
+        Keyword::Syn => Some(Field::Syn),
+        Keyword::Ack => Some(Field::Ack),
+        Keyword::Fin => Some(Field::Fin),
+        Keyword::Rst => Some(Field::Rst),
         _ => None,
     }
 }
 
 #[tactic(auto, unfolding(crate::specs::Test::relation_of))]
-fn relation_word(kind: Kind) -> Option<Relation>
-    ensures { result ≡ relation_of kind }
+fn relation_word(keyword: Keyword) -> Option<Relation>
+    ensures { result ≡ relation_of keyword }
 {
-    match kind {
-        Kind::More => Some(Relation::More),
-        Kind::Less => Some(Relation::Less),
-        Kind::AtLeast => Some(Relation::AtLeast),
-        Kind::AtMost => Some(Relation::AtMost),
+    match keyword {
+        Keyword::More => Some(Relation::More),
+        Keyword::Less => Some(Relation::Less),
+        Keyword::AtLeast => Some(Relation::AtLeast),
+        Keyword::AtMost => Some(Relation::AtMost),
         _ => None,
     }
 }
@@ -228,7 +228,7 @@ fn number_test(field: Field, greatest: u64, word: &[u8]) -> Option<Test>
 fn host_test(sides: Sides, word: &[u8]) -> Option<Test>
     ensures { result ≡ host_test sides word.now }
 {
-    let address = address(word)?;
+    let address = ipv4_address(word)?;
     Some(Test::Address(
         sides,
         Span {
@@ -280,40 +280,40 @@ fn related_ttl(relation: Relation, word: &[u8]) -> Option<Test>
 }
 
 #[tactic(auto, unfolding(crate::specs::Test::after_port))]
-fn after_port(sides: Sides, transport: Transport, kind: Kind, word: &[u8]) -> Next
-    ensures { result ≡ after_port sides transport kind word.now }
+fn after_port(sides: Sides, transport: Transport, keyword: Keyword, word: &[u8]) -> Next
+    ensures { result ≡ after_port sides transport keyword word.now }
 {
-    match relation_word(kind) {
-        Some(relation) => Next::On(Place::PortRelation(sides, transport, relation)),
+    match relation_word(keyword) {
+        Some(relation) => Next::On(Stage::PortRelation(sides, transport, relation)),
         None => whole(ports_test(sides, transport, word)),
     }
 }
 
 #[tactic(auto, unfolding(crate::specs::Test::after_ttl))]
-fn after_ttl(kind: Kind, word: &[u8]) -> Next
-    ensures { result ≡ after_ttl kind word.now }
+fn after_ttl(keyword: Keyword, word: &[u8]) -> Next
+    ensures { result ≡ after_ttl keyword word.now }
 {
-    match relation_word(kind) {
-        Some(relation) => Next::On(Place::TtlRelation(relation)),
+    match relation_word(keyword) {
+        Some(relation) => Next::On(Stage::TtlRelation(relation)),
         None => whole(number_test(Field::Ttl, 255, word)),
     }
 }
 
 #[tactic(auto, unfolding(crate::specs::Test::after_transport))]
-fn after_transport(sides: Sides, transport: Transport, kind: Kind) -> Next
-    ensures { result ≡ after_transport sides transport kind }
+fn after_transport(sides: Sides, transport: Transport, keyword: Keyword) -> Next
+    ensures { result ≡ after_transport sides transport keyword }
 {
-    match kind {
-        Kind::Port => Next::On(Place::Port(sides, transport)),
+    match keyword {
+        Keyword::Port => Next::On(Stage::Port(sides, transport)),
         _ => Next::Wrong,
     }
 }
 
 #[tactic(auto, unfolding(crate::specs::Test::after_option))]
-fn after_option(kind: Kind) -> Next
-    ensures { result ≡ after_option kind }
+fn after_option(keyword: Keyword) -> Next
+    ensures { result ≡ after_option keyword }
 {
-    match tcp_flag(kind) {
+    match tcp_flag(keyword) {
         Some(flag) => Next::Whole(value(flag, 1), More::Nothing),
         None => Next::Wrong,
     }
@@ -321,37 +321,37 @@ fn after_option(kind: Kind) -> Next
 
 /// What the next word makes of a test.
 #[tactic(auto, unfolding(crate::specs::Test::next_word))]
-pub(crate) fn next_word(place: Place, kind: Kind, word: &[u8]) -> Next
-    ensures { result ≡ next_word place kind word.now }
+pub(crate) fn next_word(stage: Stage, keyword: Keyword, word: &[u8]) -> Next
+    ensures { result ≡ next_word stage keyword word.now }
 {
-    match place {
-        Place::Start => first_word(kind),
-        Place::Side(sides) => after_side(sides, kind),
-        Place::Transport(sides, transport) => after_transport(sides, transport, kind),
-        Place::Host(sides) => whole(host_test(sides, word)),
-        Place::Net(sides) => whole(net_test(sides, word)),
-        Place::Port(sides, transport) => after_port(sides, transport, kind, word),
-        Place::PortRelation(sides, transport, relation) => {
+    match stage {
+        Stage::Start => first_word(keyword),
+        Stage::Side(sides) => after_side(sides, keyword),
+        Stage::Transport(sides, transport) => after_transport(sides, transport, keyword),
+        Stage::Host(sides) => whole(host_test(sides, word)),
+        Stage::Net(sides) => whole(net_test(sides, word)),
+        Stage::Port(sides, transport) => after_port(sides, transport, keyword, word),
+        Stage::PortRelation(sides, transport, relation) => {
             whole(related_ports(sides, transport, relation, word))
         }
-        Place::Ip => after_ip(kind),
-        Place::Number(field, greatest) => whole(number_test(field, greatest, word)),
-        Place::Ttl => after_ttl(kind, word),
-        Place::TtlRelation(relation) => whole(related_ttl(relation, word)),
-        Place::TcpOption => after_option(kind),
+        Stage::Ip => after_ip(keyword),
+        Stage::Number(field, greatest) => whole(number_test(field, greatest, word)),
+        Stage::Ttl => after_ttl(keyword, word),
+        Stage::TtlRelation(relation) => whole(related_ttl(relation, word)),
+        Stage::TcpOption => after_option(keyword),
     }
 }
 
 /// Where a test that is whole goes on with this word.
 #[tactic(auto, unfolding(crate::specs::Test::further_word))]
-pub(crate) fn further_word(more: More, kind: Kind) -> Option<Place>
-    ensures { result ≡ further_word more kind }
+pub(crate) fn further_word(more: More, keyword: Keyword) -> Option<Stage>
+    ensures { result ≡ further_word more keyword }
 {
-    match (more, kind) {
-        (More::Tcp, Kind::Port) => Some(Place::Port(Sides::Either, Transport::Tcp)),
-        (More::Tcp, Kind::Opt) => Some(Place::TcpOption),
-        (More::Udp, Kind::Port) => Some(Place::Port(Sides::Either, Transport::Udp)),
-        (More::Icmp, Kind::MessageType) => Some(Place::Number(Field::IcmpType, 255)),
+    match (more, keyword) {
+        (More::Tcp, Keyword::Port) => Some(Stage::Port(Sides::Either, Transport::Tcp)),
+        (More::Tcp, Keyword::Opt) => Some(Stage::TcpOption),
+        (More::Udp, Keyword::Port) => Some(Stage::Port(Sides::Either, Transport::Udp)),
+        (More::Icmp, Keyword::MessageType) => Some(Stage::Number(Field::IcmpType, 255)),
         _ => None,
     }
 }

@@ -4,9 +4,9 @@ use Rattle.mt_pattern.specs.Lexis.{ends_word_at}
 use Rattle.mt_pattern.proofs.Words.{word_more}
 use Rattle.mt_pattern.proofs.lexis.word_length.Goals as goal
 
-pub loop-place-preserved : goal.loop-place-preserved
-loop-place-preserved c =
+pub loop-offset-preserved : goal.loop-offset-preserved
+loop-offset-preserved c =
     let text = c.args.text.now in
-    let place = c.loop-place.place in
-    let goes_on : ends_word_at (drop place text) ≡ false = ap ends_word_at (sym (take_rest text place)) ∙ (sym c.ends_word.ensures ∙ c.if-not-ends_word.true) in
-    (omega arith, omega (arith, word_more text place goes_on c.loop-place-test.true, c.loop-place.invariant.1))
+    let offset = c.loop-offset.offset in
+    let goes_on : ends_word_at (drop offset text) ≡ false = ap ends_word_at (sym (take_rest text offset)) ∙ (sym c.ends_word.ensures ∙ c.if-not-ends_word.true) in
+    (omega arith, omega (arith, word_more text offset goes_on c.loop-offset-test.true, c.loop-offset.invariant.1))

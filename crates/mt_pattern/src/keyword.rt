@@ -1,10 +1,10 @@
 //! What a token is, by its spelling.
 ghost use Rattle.std.specs.Prelude.{◌≡◌};
-ghost use Rattle.mt_pattern.specs.Kind.{kind_of, operator_of, head_of, part_of};
+ghost use Rattle.mt_pattern.specs.Keyword.{keyword_of, operator_of, head_of, detail_of};
 
-/// What a token is. A sign and the word that stands for it are one kind.
+/// What a token is. A sign and the word that stands for it are one keyword.
 #[derive(Clone, Copy)]
-pub(crate) enum Kind {
+pub(crate) enum Keyword {
     /// `(`
     Open,
     /// `)`
@@ -50,132 +50,132 @@ pub(crate) enum Kind {
 }
 
 /// What a token is.
-#[tactic(auto, unfolding(crate::specs::Kind::kind_of))]
-pub(crate) fn kind_of(word: &[u8]) -> Kind
-    ensures { result ≡ kind_of word.now }
+#[tactic(auto, unfolding(crate::specs::Keyword::keyword_of))]
+pub(crate) fn keyword_of(word: &[u8]) -> Keyword
+    ensures { result ≡ keyword_of word.now }
 {
-    if let Some(kind) = operator_of(word) {
-        return kind;
+    if let Some(keyword) = operator_of(word) {
+        return keyword;
     }
-    if let Some(kind) = head_of(word) {
-        return kind;
+    if let Some(keyword) = head_of(word) {
+        return keyword;
     }
-    match part_of(word) {
-        Some(kind) => kind,
-        None => Kind::Other,
+    match detail_of(word) {
+        Some(keyword) => keyword,
+        None => Keyword::Other,
     }
 }
 
 /// Signs and operators.
-#[tactic(auto, unfolding(crate::specs::Kind::operator_of))]
-fn operator_of(word: &[u8]) -> Option<Kind>
+#[tactic(auto, unfolding(crate::specs::Keyword::operator_of))]
+fn operator_of(word: &[u8]) -> Option<Keyword>
     ensures { result ≡ operator_of word.now }
 {
     if word == b"(".as_slice() {
-        return Some(Kind::Open);
+        return Some(Keyword::Open);
     }
     if word == b")".as_slice() {
-        return Some(Kind::Close);
+        return Some(Keyword::Close);
     }
     if word == b"!".as_slice() || word == b"not".as_slice() {
-        return Some(Kind::Not);
+        return Some(Keyword::Not);
     }
     if word == b"&&".as_slice() || word == b"and".as_slice() {
-        return Some(Kind::And);
+        return Some(Keyword::And);
     }
     if word == b"||".as_slice() || word == b"or".as_slice() {
-        return Some(Kind::Or);
+        return Some(Keyword::Or);
     }
     if word == b">".as_slice() {
-        return Some(Kind::More);
+        return Some(Keyword::More);
     }
     if word == b"<".as_slice() {
-        return Some(Kind::Less);
+        return Some(Keyword::Less);
     }
     if word == b">=".as_slice() {
-        return Some(Kind::AtLeast);
+        return Some(Keyword::AtLeast);
     }
     if word == b"<=".as_slice() {
-        return Some(Kind::AtMost);
+        return Some(Keyword::AtMost);
     }
     None
 }
 
 /// What a test begins with, and its directions.
-#[tactic(auto, unfolding(crate::specs::Kind::head_of))]
-fn head_of(word: &[u8]) -> Option<Kind>
+#[tactic(auto, unfolding(crate::specs::Keyword::head_of))]
+fn head_of(word: &[u8]) -> Option<Keyword>
     ensures { result ≡ head_of word.now }
 {
     if word == b"-".as_slice() || word == b"true".as_slice() || word == b"all".as_slice() {
-        return Some(Kind::Always);
+        return Some(Keyword::Always);
     }
     if word == b"src".as_slice() {
-        return Some(Kind::Src);
+        return Some(Keyword::Src);
     }
     if word == b"dst".as_slice() {
-        return Some(Kind::Dst);
+        return Some(Keyword::Dst);
     }
     if word == b"host".as_slice() {
-        return Some(Kind::Host);
+        return Some(Keyword::Host);
     }
     if word == b"net".as_slice() {
-        return Some(Kind::Net);
+        return Some(Keyword::Net);
     }
     if word == b"port".as_slice() {
-        return Some(Kind::Port);
+        return Some(Keyword::Port);
     }
     if word == b"tcp".as_slice() {
-        return Some(Kind::Tcp);
+        return Some(Keyword::Tcp);
     }
     if word == b"udp".as_slice() {
-        return Some(Kind::Udp);
+        return Some(Keyword::Udp);
     }
     if word == b"icmp".as_slice() {
-        return Some(Kind::Icmp);
+        return Some(Keyword::Icmp);
     }
     if word == b"ip".as_slice() {
-        return Some(Kind::Ip);
+        return Some(Keyword::Ip);
     }
     None
 }
 
 /// What stands further on in a test.
-#[tactic(auto, unfolding(crate::specs::Kind::part_of))]
-fn part_of(word: &[u8]) -> Option<Kind>
-    ensures { result ≡ part_of word.now }
+#[tactic(auto, unfolding(crate::specs::Keyword::detail_of))]
+fn detail_of(word: &[u8]) -> Option<Keyword>
+    ensures { result ≡ detail_of word.now }
 {
     if word == b"proto".as_slice() {
-        return Some(Kind::Proto);
+        return Some(Keyword::Proto);
     }
     if word == b"dscp".as_slice() {
-        return Some(Kind::Dscp);
+        return Some(Keyword::Dscp);
     }
     if word == b"ttl".as_slice() {
-        return Some(Kind::Ttl);
+        return Some(Keyword::Ttl);
     }
     if word == b"frag".as_slice() {
-        return Some(Kind::Frag);
+        return Some(Keyword::Frag);
     }
     if word == b"unfrag".as_slice() {
-        return Some(Kind::Unfrag);
+        return Some(Keyword::Unfrag);
     }
     if word == b"opt".as_slice() {
-        return Some(Kind::Opt);
+        return Some(Keyword::Opt);
     }
     if word == b"syn".as_slice() {
-        return Some(Kind::Syn);
+        return Some(Keyword::Syn);
     }
     if word == b"ack".as_slice() {
-        return Some(Kind::Ack);
+        return Some(Keyword::Ack);
     }
     if word == b"fin".as_slice() {
-        return Some(Kind::Fin);
+        return Some(Keyword::Fin);
     }
     if word == b"rst".as_slice() {
-        return Some(Kind::Rst);
+        return Some(Keyword::Rst);
     }
     if word == b"type".as_slice() {
-        return Some(Kind::MessageType);
+        return Some(Keyword::MessageType);
     }
     None
 }

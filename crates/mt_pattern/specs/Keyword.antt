@@ -1,11 +1,11 @@
 -- What a token is, by its spelling.
 use Rattle.std.specs.Prelude.{ℕ, ◌||◌, if◌then◌else◌, List, codes, Option, Some, None}
 use Rattle.std.specs.Str.{bytes_eq}
-use Rattle.mt_pattern.specs.declared.kind.Kind.{Kind}
-use Rattle.mt_pattern.specs.declared.kind.Kind.TheVariants.{Open, Close, Not, And, Or, More, Less, AtLeast, AtMost, Always, Src, Dst, Host, Net, Port, Tcp, Udp, Icmp, Ip, Proto, Dscp, Ttl, Frag, Unfrag, Opt, Syn, Ack, Fin, Rst, MessageType, Other}
+use Rattle.mt_pattern.specs.declared.keyword.Keyword.{Keyword}
+use Rattle.mt_pattern.specs.declared.keyword.Keyword.TheVariants.{Open, Close, Not, And, Or, More, Less, AtLeast, AtMost, Always, Src, Dst, Host, Net, Port, Tcp, Udp, Icmp, Ip, Proto, Dscp, Ttl, Frag, Unfrag, Opt, Syn, Ack, Fin, Rst, MessageType, Other}
 
 -- signs and operators
-unfoldable pub operator_of : List ℕ → Option Kind
+unfoldable pub operator_of : List ℕ → Option Keyword
 operator_of word =
     if bytes_eq word (codes "(") then Some Open
     else if bytes_eq word (codes ")") then Some Close
@@ -19,7 +19,7 @@ operator_of word =
     else None
 
 -- what a test begins with, and its directions
-unfoldable pub head_of : List ℕ → Option Kind
+unfoldable pub head_of : List ℕ → Option Keyword
 head_of word =
     if bytes_eq word (codes "-") || bytes_eq word (codes "true") || bytes_eq word (codes "all") then Some Always
     else if bytes_eq word (codes "src") then Some Src
@@ -34,8 +34,8 @@ head_of word =
     else None
 
 -- what stands further on in a test
-unfoldable pub part_of : List ℕ → Option Kind
-part_of word =
+unfoldable pub detail_of : List ℕ → Option Keyword
+detail_of word =
     if bytes_eq word (codes "proto") then Some Proto
     else if bytes_eq word (codes "dscp") then Some Dscp
     else if bytes_eq word (codes "ttl") then Some Ttl
@@ -49,10 +49,10 @@ part_of word =
     else if bytes_eq word (codes "type") then Some MessageType
     else None
 
-abbrev pub kind_or : Option Kind → Kind → Kind
-kind_or None fallback = fallback
-kind_or (Some kind) fallback = kind
+abbrev pub keyword_or : Option Keyword → Keyword → Keyword
+keyword_or None fallback = fallback
+keyword_or (Some keyword) fallback = keyword
 
 -- what a token is
-unfoldable pub kind_of : List ℕ → Kind
-kind_of word = kind_or (operator_of word) (kind_or (head_of word) (kind_or (part_of word) Other))
+unfoldable pub keyword_of : List ℕ → Keyword
+keyword_of word = keyword_or (operator_of word) (keyword_or (head_of word) (keyword_or (detail_of word) Other))

@@ -1,9 +1,0 @@
-use Rattle.std.proofs.Common.{◌≡◌, ◌<◌, ◌^◌, take}
-use Rattle.mt_pattern.specs.Number.{hexadecimal_value}
-use Rattle.mt_pattern.proofs.number.hexadecimal_value.Given as goal
-
-abbrev pub invariant-loop-byte : goal.invariant-loop-byte
-invariant-loop-byte l = record {
-  small : l.value < 64 ^ l.byte-index;
-  value : l.value ≡ hexadecimal_value (take l.byte-index l.word);
-}
