@@ -1,5 +1,6 @@
 mod Ends
 mod Faults
+mod Printed
 mod Read
 mod Rows
 mod Signs

@@ -3,7 +3,8 @@ use Rattle.std.specs.Prelude.{ℕ, ◌+◌, ◌-◌, ◌%◌, ◌^◌, nat_le, i
 use Rattle.mt_packet.specs.declared.span.Span.{Span}
 use Rattle.mt_lists.specs.Options.{◌>>=◌}
 use Rattle.mt_text.specs.Number.{number_up_to, decimal_up_to}
-use Rattle.mt_text.specs.Address.{index_of, ipv4_address_of}
+use Rattle.mt_lists.specs.Cuts.{index_of}
+use Rattle.mt_text.specs.Address.{ipv4_address_of}
 
 abbrev pub span : ℕ → ℕ → Span
 span lo hi = record { lo = lo; hi = hi }
