@@ -1,13 +1,13 @@
--- The moments of the parts of a configuration are those that its trees tell.
+-- The moments of the phrases of a configuration are those that its trees tell.
 use Rattle.std.proofs.Common.{◌≡◌, ℕ, ◌+◌, List, [], ◌∷◌, ◌++◌, length, map, cond, Option, Some, None, is_some, refl, sym, ap, ◌∙◌, subst}
 use Rattle.std.specs.Option.{option_map}
 use Rattle.std.proofs.lemmas.List.{append_assoc, append-nil}
 use Rattle.mt_syntax.specs.declared.token.Token.{Token}
 use Rattle.mt_syntax.specs.declared.fault.ClickWhy.TheVariants as whys
-use Rattle.mt_syntax.specs.declared.part.Part.{Part}
-use Rattle.mt_syntax.specs.declared.part.Part.TheVariants as parts
+use Rattle.mt_syntax.specs.declared.phrase.Phrase.{Phrase}
+use Rattle.mt_syntax.specs.declared.phrase.Phrase.TheVariants as phrases
 use Rattle.mt_syntax.specs.Reading.{word}
-use Rattle.mt_syntax.specs.Grammar.{sign, plain, ParameterTree, ClassTree, print_statement, print_class, OuterTree, outer, class, print_config, body_parts, more_parameters, parameter_parts, config_parts}
+use Rattle.mt_syntax.specs.Grammar.{sign, plain, ParameterTree, ClassTree, print_statement, print_class, OuterTree, outer, class, print_config, body_phrases, more_parameters, parameter_phrases, config_phrases}
 use Rattle.mt_click.specs.declared.scope.Scope.{Scope}
 use Rattle.mt_click.specs.declared.table.Entry.{Entry}
 use Rattle.mt_click.specs.declared.moment.Moment.{Moment}
@@ -26,12 +26,12 @@ use Rattle.mt_click.proofs.Rising.{Above, above_all, above_rest, among_front, cl
 use Rattle.mt_click.proofs.Sights.{Sees, AllOf, all_outside, sees_outside, sees_body}
 use Rattle.mt_click.proofs.Agreeing.{statement_agrees, body_agrees}
 
-following_agrees : (names : Names) (s : Scope) (more : List (Token × Token)) (ps : List Part) → moments_from names s [] None (more_parameters more ++ ps) ≡ parameter_moments (following more) ++ moments_from names s [] None ps
+following_agrees : (names : Names) (s : Scope) (more : List (Token × Token)) (ps : List Phrase) → moments_from names s [] None (more_parameters more ++ ps) ≡ parameter_moments (following more) ++ moments_from names s [] None ps
 unfolding moments_from part_moments side_behind parameter_moments
 following_agrees names s [] ps = refl
 following_agrees names s (next ∷ more) ps = ap (λ xs. moments.Parameter (word next.1) ∷ xs) (following_agrees names s more ps)
 
-parameters_agree : (names : Names) (s : Scope) (o : Option ParameterTree) (ps : List Part) → moments_from names s [] None (parameter_parts o ++ ps) ≡ parameter_moments (parameters_in o) ++ moments_from names s [] None ps
+parameters_agree : (names : Names) (s : Scope) (o : Option ParameterTree) (ps : List Phrase) → moments_from names s [] None (parameter_phrases o ++ ps) ≡ parameter_moments (parameters_in o) ++ moments_from names s [] None ps
 unfolding moments_from part_moments side_behind parameter_moments
 parameters_agree names s None ps = refl
 parameters_agree names s (Some p) ps = ap (λ xs. moments.Parameter (word p.first) ∷ xs) (following_agrees names s p.more ps)
@@ -46,13 +46,13 @@ unfolding class_moments class_named class_naming
 class_agrees text cl ns po classes c knows =
     ap (λ k. cond (is_some k) (moments.Name (wrong whys.Redeclared c.name.from) ∷ moments.Class ∷ []) (moments.Class ∷ [])) (knows (spelling text c.name)) ∙ class_told c.name.from (class_under text classes (spelling text c.name))
 
--- the parts of a class
-within_agrees : (names : Names) (text : List ℕ) (k : ℕ) (classes : List ClassTree) (c : ClassTree) (ps : List Part) → Sees names (in_at k) (body_sight text classes c)
-    → moments_from names (in_at k) [] None (parameter_parts c.parameters ++ (body_parts c.body ++ parts.Close ∷ ps)) ≡ moments_within text classes c ++ moments_from names (out_at (k + 1)) [] None ps
+-- the phrases of a class
+within_agrees : (names : Names) (text : List ℕ) (k : ℕ) (classes : List ClassTree) (c : ClassTree) (ps : List Phrase) → Sees names (in_at k) (body_sight text classes c)
+    → moments_from names (in_at k) [] None (parameter_phrases c.parameters ++ (body_phrases c.body ++ phrases.Close ∷ ps)) ≡ moments_within text classes c ++ moments_from names (out_at (k + 1)) [] None ps
 unfolding moments_within moments_from part_moments side_behind
 within_agrees names text k classes c ps h =
-    parameters_agree names (in_at k) c.parameters (body_parts c.body ++ parts.Close ∷ ps)
-    ∙ ap (λ xs. parameter_moments (parameters_of c) ++ xs) (body_agrees names (in_at k) (body_sight text classes c) h [] [] c.body (parts.Close ∷ ps) refl (sym (append-nil (declared_body classes c.body))))
+    parameters_agree names (in_at k) c.parameters (body_phrases c.body ++ phrases.Close ∷ ps)
+    ∙ ap (λ xs. parameter_moments (parameters_of c) ++ xs) (body_agrees names (in_at k) (body_sight text classes c) h [] [] c.body (phrases.Close ∷ ps) refl (sym (append-nil (declared_body classes c.body))))
     ∙ ap (λ xs. parameter_moments (parameters_of c) ++ xs) (sym (append_assoc body (moments.Close ∷ []) after))
     ∙ sym (append_assoc (parameter_moments (parameters_of c)) (body ++ moments.Close ∷ []) after)
   where
@@ -71,28 +71,28 @@ outside_agrees : (text : List ℕ) (cl ns po : List Entry) (declared : List Decl
     → Above 0 (print_config us)
     → ArePorted text po [] (classes ++ classes_of us)
     → AllOf (ArePorted text po []) declared
-    → moments_from (record { text = text; classes = cl; names = ns; ports = po }) (out_at (length classes)) [] None (config_parts us) ≡ moments_of_outside text declared classes earlier us
+    → moments_from (record { text = text; classes = cl; names = ns; ports = po }) (out_at (length classes)) [] None (config_phrases us) ≡ moments_of_outside text declared classes earlier us
 unfolding moments_of_outside classes_of declared_outside moments_from part_moments side_behind
 outside_agrees text cl ns po declared classes earlier [] e q found passed up above ported all = refl
 outside_agrees text cl ns po declared classes earlier (outer (sign t) ∷ us) e q found passed up above ported all =
     outside_agrees text cl ns po declared classes earlier us e q found passed up (above_rest 0 (t ∷ []) (print_config us) above) ported all
 outside_agrees text cl ns po declared classes earlier (outer (plain st) ∷ us) e q found passed up above ported all =
     statement_agrees (record { text = text; classes = cl; names = ns; ports = po }) (out_at (length classes)) (record { text = text; declared = declared; classes = classes; own = None })
-    (sees_outside text cl ns po declared classes (classes_of us) e found up ported all) earlier (declared_outside classes us) st (config_parts us) (joined_config us) q
+    (sees_outside text cl ns po declared classes (classes_of us) e found up ported all) earlier (declared_outside classes us) st (config_phrases us) (joined_config us) q
     ∙ ap (λ xs. moments_of_statement (record { text = text; declared = declared; classes = classes; own = None }) earlier st ++ xs)
     (outside_agrees text cl ns po declared classes (earlier ++ declared_statement classes st) us e (q ∙ sym (append_assoc earlier (declared_statement classes st) (declared_outside classes us))) found (passed_statement text ns classes st us passed) up
     (above_rest 0 (print_statement st) (print_config us) above) ported all)
 outside_agrees text cl ns po declared classes earlier (class c ∷ us) e q found passed up above ported all =
-    ap (moments_from names (out_at (length classes)) [] None) (class_split c (config_parts us))
-    ∙ ap (λ xs. xs ++ moments_from names (in_at (length classes)) [] None (parameter_parts c.parameters ++ (body_parts c.body ++ parts.Close ∷ config_parts us)))
+    ap (moments_from names (out_at (length classes)) [] None) (class_split c (config_phrases us))
+    ∙ ap (λ xs. xs ++ moments_from names (in_at (length classes)) [] None (parameter_phrases c.parameters ++ (body_phrases c.body ++ phrases.Close ∷ config_phrases us)))
     (class_agrees text cl ns po classes c (knows_all text cl classes (c ∷ classes_of us) (out_at (length classes)) e refl))
-    ∙ append_assoc (class_naming text classes c) (moments.Class ∷ []) (moments_from names (in_at (length classes)) [] None (parameter_parts c.parameters ++ (body_parts c.body ++ parts.Close ∷ config_parts us)))
+    ∙ append_assoc (class_naming text classes c) (moments.Class ∷ []) (moments_from names (in_at (length classes)) [] None (parameter_phrases c.parameters ++ (body_phrases c.body ++ phrases.Close ∷ config_phrases us)))
     ∙ ap (λ xs. class_naming text classes c ++ moments.Class ∷ xs)
-    (within_agrees names text (length classes) classes c (config_parts us)
+    (within_agrees names text (length classes) classes c (config_phrases us)
     (sees_body text cl ns po classes c us e passed
     (rises 0 (declared_body classes c.body) (print_class c ++ print_config us) (among_front (declared_body classes c.body) (print_class c) (print_config us) (class_among classes c)) above) ported)
     ∙ ap (λ xs. moments_within text classes c ++ xs)
-    (ap (λ k. moments_from names (out_at k) [] None (config_parts us)) (sym (one_longer classes c))
+    (ap (λ k. moments_from names (out_at k) [] None (config_phrases us)) (sym (one_longer classes c))
     ∙ outside_agrees text cl ns po declared (classes ++ c ∷ []) earlier us (moved_on cl classes c (classes_of us) e) q found (passed_class text ns classes c us passed) up
     (above_rest 0 (print_class c) (print_config us) above) (subst (ArePorted text po []) (sym (append_assoc classes (c ∷ []) (classes_of us))) ported) all))
   where
@@ -100,9 +100,9 @@ outside_agrees text cl ns po declared classes earlier (class c ∷ us) e q found
     names = record { text = text; classes = cl; names = ns; ports = po }
 
 -- The moments of a configuration whose tokens ascend.
-pub moments_agree : (text : List ℕ) (tree : List OuterTree) → Ascends (print_config tree) → moments_in text (config_parts tree) ≡ moments_of_tree text tree
+pub moments_agree : (text : List ℕ) (tree : List OuterTree) → Ascends (print_config tree) → moments_in text (config_phrases tree) ≡ moments_of_tree text tree
 moments_agree text tree h =
-    outside_agrees text (classes_in (config_parts tree)) ns (ports_from text (out_at 0) (config_parts tree)) (declared_outside [] tree) [] [] tree
+    outside_agrees text (classes_in (config_phrases tree)) ns (ports_from text (out_at 0) (config_phrases tree)) (declared_outside [] tree) [] [] tree
     (classes_agree tree)
     refl
     (λ name. ap (found_in (is_entry text 0 0 name)) all ∙ outside_found text [] tree name)
@@ -110,10 +110,10 @@ moments_agree text tree h =
     (rises 0 (declared_outside [] tree) (print_config tree) (outside_among [] tree) (above_all (print_config tree) h))
     (above_all (print_config tree) h)
     (ports_agree text tree)
-    (all_outside text (ports_from text (out_at 0) (config_parts tree)) [] tree (ports_agree text tree))
+    (all_outside text (ports_from text (out_at 0) (config_phrases tree)) [] tree (ports_agree text tree))
   where
     ns : List Entry
-    ns = names_from text (classes_in (config_parts tree)) (out_at 0) [] (config_parts tree)
+    ns = names_from text (classes_in (config_phrases tree)) (out_at 0) [] (config_phrases tree)
 
     all : ns ≡ entries_of text [] tree
-    all = names_agree text (classes_in (config_parts tree)) [] tree (classes_agree tree)
+    all = names_agree text (classes_in (config_phrases tree)) [] tree (classes_agree tree)

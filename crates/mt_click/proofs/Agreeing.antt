@@ -5,13 +5,13 @@ use Rattle.std.specs.Option.{option_map}
 use Rattle.std.proofs.lemmas.List.{append_assoc, append-nil, length-map}
 use Rattle.mt_syntax.specs.declared.token.Token.{Token}
 use Rattle.mt_syntax.specs.declared.fault.ClickWhy.TheVariants as whys
-use Rattle.mt_syntax.specs.declared.part.Word.{Word}
-use Rattle.mt_syntax.specs.declared.part.Use.{Use}
-use Rattle.mt_syntax.specs.declared.part.Part.{Part}
-use Rattle.mt_syntax.specs.declared.part.Part.TheVariants as parts
+use Rattle.mt_syntax.specs.declared.word.Word.{Word}
+use Rattle.mt_syntax.specs.declared.phrase.Use.{Use}
+use Rattle.mt_syntax.specs.declared.phrase.Phrase.{Phrase}
+use Rattle.mt_syntax.specs.declared.phrase.Phrase.TheVariants as phrases
 use Rattle.mt_syntax.specs.Reading.{word}
 use Rattle.mt_syntax.specs.Words.{bytes_of}
-use Rattle.mt_syntax.specs.Grammar.{UseTree, use_of, PortTree, port_of, ItemTree, named, alone, made, item_of, EndTree, end_of, StatementTree, connect, declare, InnerTree, sign, plain, ClassTree, next_ends, more_names, statement_parts, body_parts}
+use Rattle.mt_syntax.specs.Grammar.{UseTree, use_of, PortTree, port_of, ItemTree, named, alone, made, item_of, EndpointTree, endpoint_of, StatementTree, connect, declare, InnerTree, sign, plain, ClassTree, next_endpoints, more_names, statement_phrases, body_phrases}
 use Rattle.mt_click.specs.declared.scope.Scope.{Scope}
 use Rattle.mt_click.specs.declared.table.Entry.{Entry}
 use Rattle.mt_click.specs.declared.moment.Moment.{Moment}
@@ -68,12 +68,12 @@ Reaches names side ports found = (n at : ℕ) → reaching names (number found) 
 reaches_inputs : (names : Names) (found : Found) → Reached names.text names.ports found → Reaches names (codes "input") (inputs_of names.text) found
 unfolding reaching reaching_of
 reaches_inputs names None r n at = refl
-reaches_inputs names (Some x) r n at = ap (λ b. cond b [] (moments.Port (wrong whys.NoPort at) ∷ [])) (r.inputs n)
+reaches_inputs names (Some x) r n at = ap (λ b. cond b [] (moments.PortNumber (wrong whys.NoPort at) ∷ [])) (r.inputs n)
 
 reaches_outputs : (names : Names) (found : Found) → Reached names.text names.ports found → Reaches names (codes "output") (outputs_of names.text) found
 unfolding reaching reaching_of
 reaches_outputs names None r n at = refl
-reaches_outputs names (Some x) r n at = ap (λ b. cond b [] (moments.Port (wrong whys.NoPort at) ∷ [])) (r.outputs n)
+reaches_outputs names (Some x) r n at = ap (λ b. cond b [] (moments.PortNumber (wrong whys.NoPort at) ∷ [])) (r.outputs n)
 
 written_agrees : (names : Names) (side : List ℕ) (ports : ClassTree → List ℕ) (found : Found) → Reaches names side ports found → (p : Option PortTree)
     → written names (number found) side (option_map port_of p) ≡ written_of ports found p
@@ -93,29 +93,29 @@ first_same (named t c u) = refl
 first_same (made t a) = refl
 
 leaving_out_agrees : (names : Names) (v : Sight) (found : Found) → Reaches names (codes "input") (inputs_of v.text) found → Reaches names (codes "output") (outputs_of v.text) found
-    → (next joined : Bool) (e : EndTree) → leaving_out names (number found) next joined (end_of e) ≡ leaving_out_of v found next joined e
+    → (next joined : Bool) (e : EndpointTree) → leaving_out names (number found) next joined (endpoint_of e) ≡ leaving_out_of v found next joined e
 unfolding leaving_out leaving_out_of
 leaving_out_agrees names v found a b next joined e =
-    ap (λ at. left_out names (number found) (codes "input") next (end_of e).input at ++ left_out names (number found) (codes "output") joined (end_of e).output at) (first_same e.item)
-    ∙ ap (λ xs. xs ++ left_out names (number found) (codes "output") joined (end_of e).output (first_of e.item)) (left_out_agrees names (codes "input") (inputs_of v.text) found a next e.input (first_of e.item))
+    ap (λ at. left_out names (number found) (codes "input") next (endpoint_of e).input at ++ left_out names (number found) (codes "output") joined (endpoint_of e).output at) (first_same e.item)
+    ∙ ap (λ xs. xs ++ left_out names (number found) (codes "output") joined (endpoint_of e).output (first_of e.item)) (left_out_agrees names (codes "input") (inputs_of v.text) found a next e.input (first_of e.item))
     ∙ ap (λ xs. left_out_of (inputs_of v.text) found next e.input (first_of e.item) ++ xs) (left_out_agrees names (codes "output") (outputs_of v.text) found b joined e.output (first_of e.item))
 
 -- what an item does
 unnamed_agrees : (names : Names) (s : Scope) (v : Sight) → Sees names s v → (found : Found) → Reaches names (codes "input") (inputs_of v.text) found → Reaches names (codes "output") (outputs_of v.text) found
-    → (next joined : Bool) (e : EndTree) (u : UseTree) → unnamed names s (number found) next joined (end_of e) (use_of u) ≡ unnamed_of v found next joined e u
+    → (next joined : Bool) (e : EndpointTree) (u : UseTree) → unnamed names s (number found) next joined (endpoint_of e) (use_of u) ≡ unnamed_of v found next joined e u
 unfolding unnamed unnamed_of
 unnamed_agrees names s v h found a b next joined e u =
-    ap (λ xs. xs ++ (counting names s (use_of u) ++ (leaving_out names (number found) next joined (end_of e) ++ making names s None (use_of u)))) (using_agrees names s v h u.class)
-    ∙ ap (λ xs. using_of v u.class ++ (xs ++ (leaving_out names (number found) next joined (end_of e) ++ making names s None (use_of u)))) (counting_agrees names s v h u)
+    ap (λ xs. xs ++ (counting names s (use_of u) ++ (leaving_out names (number found) next joined (endpoint_of e) ++ making names s None (use_of u)))) (using_agrees names s v h u.class)
+    ∙ ap (λ xs. using_of v u.class ++ (xs ++ (leaving_out names (number found) next joined (endpoint_of e) ++ making names s None (use_of u)))) (counting_agrees names s v h u)
     ∙ ap (λ xs. using_of v u.class ++ (counting_of v u ++ (xs ++ making names s None (use_of u)))) (leaving_out_agrees names v found a b next joined e)
     ∙ ap (λ xs. using_of v u.class ++ (counting_of v u ++ (leaving_out_of v found next joined e ++ xs))) (making_agrees names s v h None u)
 
 named_agrees : (names : Names) (s : Scope) (v : Sight) → Sees names s v → (earlier rest : List Declaration) (found : Found) → Reaches names (codes "input") (inputs_of v.text) found → Reaches names (codes "output") (outputs_of v.text) found
-    → (next joined : Bool) (e : EndTree) (t : Token) (u : UseTree) → v.declared ≡ earlier ++ declaration v.classes u t ∷ rest
-    → told.named names s (number found) next joined (end_of e) (word t) (use_of u) ≡ named_of v earlier found next joined e t u
+    → (next joined : Bool) (e : EndpointTree) (t : Token) (u : UseTree) → v.declared ≡ earlier ++ declaration v.classes u t ∷ rest
+    → told.named names s (number found) next joined (endpoint_of e) (word t) (use_of u) ≡ named_of v earlier found next joined e t u
 unfolding told.named named_of
 named_agrees names s v h earlier rest found a b next joined e t u q =
-    ap (λ xs. xs ++ (leaving_out names (number found) next joined (end_of e) ++ (using names s (word u.class) ++ (counting names s (use_of u) ++ making names s (Some (word t)) (use_of u))))) (naming_agrees names s v h earlier (declaration v.classes u t) rest q)
+    ap (λ xs. xs ++ (leaving_out names (number found) next joined (endpoint_of e) ++ (using names s (word u.class) ++ (counting names s (use_of u) ++ making names s (Some (word t)) (use_of u))))) (naming_agrees names s v h earlier (declaration v.classes u t) rest q)
     ∙ ap (λ xs. naming_of v earlier t ++ (xs ++ (using names s (word u.class) ++ (counting names s (use_of u) ++ making names s (Some (word t)) (use_of u))))) (leaving_out_agrees names v found a b next joined e)
     ∙ ap (λ xs. naming_of v earlier t ++ (leaving_out_of v found next joined e ++ (xs ++ (counting names s (use_of u) ++ making names s (Some (word t)) (use_of u))))) (using_agrees names s v h u.class)
     ∙ ap (λ xs. naming_of v earlier t ++ (leaving_out_of v found next joined e ++ (using_of v u.class ++ (xs ++ making names s (Some (word t)) (use_of u))))) (counting_agrees names s v h u)
@@ -129,25 +129,25 @@ new_agrees : (names : Names) (s : Scope) (v : Sight) → Sees names s v → (t :
 unfolding is_new
 new_agrees names s v h t =
     ap (λ b. not b && not (is_some (declared_place names s (bytes_of names.text (word t))))) (h.border t)
-    ∙ ap (λ b. not (is_border v t) && not b) (some_stands names.names _ _ (h.placed t) ∙ some_entry (entry_of v.text (scope_number s)) (name_meant v t))
+    ∙ ap (λ b. not (is_border v t) && not b) (some_stands names.names _ _ (h.located t) ∙ some_entry (entry_of v.text (scope_number s)) (name_meant v t))
 
 item_agrees : (names : Names) (s : Scope) (v : Sight) → Sees names s v → (earlier rest : List Declaration) (found : Found) → Reaches names (codes "input") (inputs_of v.text) found → Reaches names (codes "output") (outputs_of v.text) found
-    → (next joined : Bool) (e : EndTree) (i : ItemTree) → v.declared ≡ earlier ++ (declared_item v.classes i ++ rest)
-    → item_moments names s (number found) next joined (end_of e) (item_of i) ≡ item_of_end v earlier found next joined e i
+    → (next joined : Bool) (e : EndpointTree) (i : ItemTree) → v.declared ≡ earlier ++ (declared_item v.classes i ++ rest)
+    → item_moments names s (number found) next joined (endpoint_of e) (item_of i) ≡ item_of_end v earlier found next joined e i
 unfolding item_moments item_of_end declared_item
 item_agrees names s v h earlier rest found a b next joined e (named t c u) q = named_agrees names s v h earlier rest found a b next joined e t u q
 item_agrees names s v h earlier rest found a b next joined e (made t x) q = unnamed_agrees names s v h found a b next joined e (record { class = t; arguments = Some x })
 item_agrees names s v h earlier rest found a b next joined e (alone t) q =
-    ap (λ n. cond n (unnamed names s (number found) next joined (end_of e) (told.alone (word t))) (leaving_out names (number found) next joined (end_of e))) (new_agrees names s v h t)
-    ∙ ap (λ xs. cond (not (is_border v t) && not (is_some (name_meant v t))) xs (leaving_out names (number found) next joined (end_of e))) (unnamed_agrees names s v h found a b next joined e (bare_use t))
+    ap (λ n. cond n (unnamed names s (number found) next joined (endpoint_of e) (told.alone (word t))) (leaving_out names (number found) next joined (endpoint_of e))) (new_agrees names s v h t)
+    ∙ ap (λ xs. cond (not (is_border v t) && not (is_some (name_meant v t))) xs (leaving_out names (number found) next joined (endpoint_of e))) (unnamed_agrees names s v h found a b next joined e (bare_use t))
     ∙ ap (λ xs. cond (not (is_border v t) && not (is_some (name_meant v t))) (unnamed_of v found next joined e (bare_use t)) xs) (leaving_out_agrees names v found a b next joined e)
 
 whole_agrees : (names : Names) (s : Scope) (v : Sight) → Sees names s v → (earlier rest : List Declaration) (found : Found) → Reaches names (codes "input") (inputs_of v.text) found → Reaches names (codes "output") (outputs_of v.text) found
-    → (next joined : Bool) (e : EndTree) → v.declared ≡ earlier ++ (declared_item v.classes e.item ++ rest) → whole_end names s (number found) next joined (end_of e) ≡ whole_of v earlier found next joined e
+    → (next joined : Bool) (e : EndpointTree) → v.declared ≡ earlier ++ (declared_item v.classes e.item ++ rest) → whole_end names s (number found) next joined (endpoint_of e) ≡ whole_of v earlier found next joined e
 unfolding whole_end whole_of
 whole_agrees names s v h earlier rest found a b next joined e q =
-    ap (λ xs. xs ++ (item_moments names s (number found) next joined (end_of e) (item_of e.item) ++ written names (number found) (codes "output") (end_of e).output)) (written_agrees names (codes "input") (inputs_of v.text) found a e.input)
-    ∙ ap (λ xs. written_of (inputs_of v.text) found e.input ++ (xs ++ written names (number found) (codes "output") (end_of e).output)) (item_agrees names s v h earlier rest found a b next joined e e.item q)
+    ap (λ xs. xs ++ (item_moments names s (number found) next joined (endpoint_of e) (item_of e.item) ++ written names (number found) (codes "output") (endpoint_of e).output)) (written_agrees names (codes "input") (inputs_of v.text) found a e.input)
+    ∙ ap (λ xs. written_of (inputs_of v.text) found e.input ++ (xs ++ written names (number found) (codes "output") (endpoint_of e).output)) (item_agrees names s v h earlier rest found a b next joined e e.item q)
     ∙ ap (λ xs. written_of (inputs_of v.text) found e.input ++ (item_of_end v earlier found next joined e e.item ++ xs)) (written_agrees names (codes "output") (outputs_of v.text) found b e.output)
 
 -- the class of what an item stands for
@@ -168,14 +168,14 @@ item_number names s v h (named t c u) = h.meant u.class
 item_number names s v h (made t a) = h.meant t
 item_number names s v h (alone t) =
     ap (λ b. cond b None (elim (declared_place names s (bytes_of names.text (word t))) [ None ↦ class_named names s (word t) | Some k ↦ class_at names.names (Some k) ])) (h.border t)
-    ∙ ap (λ x. cond (is_border v t) None x) (lone_number names.names (scope_number s) v t (class_named names s (word t)) (declared_place names s (bytes_of names.text (word t))) (name_meant v t) (h.placed t) (h.meant t))
+    ∙ ap (λ x. cond (is_border v t) None x) (lone_number names.names (scope_number s) v t (class_named names s (word t)) (declared_place names s (bytes_of names.text (word t))) (name_meant v t) (h.located t) (h.meant t))
     ∙ number_cond (is_border v t) (lone_class v t (name_meant v t))
 
-end_agrees : (names : Names) (s : Scope) (v : Sight) → Sees names s v → (earlier rest : List Declaration) (next joined : Bool) (e : EndTree) → v.declared ≡ earlier ++ (declared_item v.classes e.item ++ rest)
-    → end_moments names s next joined (end_of e) ≡ moments_of_end v earlier next joined e
+end_agrees : (names : Names) (s : Scope) (v : Sight) → Sees names s v → (earlier rest : List Declaration) (next joined : Bool) (e : EndpointTree) → v.declared ≡ earlier ++ (declared_item v.classes e.item ++ rest)
+    → end_moments names s next joined (endpoint_of e) ≡ moments_of_end v earlier next joined e
 unfolding end_moments moments_of_end
 end_agrees names s v h earlier rest next joined e q =
-    ap (λ k. whole_end names s k next joined (end_of e)) (item_number names s v h e.item)
+    ap (λ k. whole_end names s k next joined (endpoint_of e)) (item_number names s v h e.item)
     ∙ whole_agrees names s v h earlier rest (item_class v e.item)
     (subst (λ x. Reaches names (codes "input") (inputs_of x) (item_class v e.item)) h.text (reaches_inputs names (item_class v e.item) (h.reached e.item)))
     (subst (λ x. Reaches names (codes "output") (outputs_of x) (item_class v e.item)) h.text (reaches_outputs names (item_class v e.item) (h.reached e.item)))
@@ -194,16 +194,16 @@ side_agrees names s v h border port (alone t) =
     ap (λ b. cond b (cond (bytes_eq (bytes_of names.text (word t)) border) (Some (sides.Border port)) None) own) (h.border t)
     ∙ ap (λ x. cond (is_border v t) (cond (bytes_eq (bytes_of x (word t)) border) (Some (sides.Border port)) None) own) h.text
     ∙ ap (λ x. cond (is_border v t) (cond (bytes_eq (spelling v.text t) border) (Some (sides.Border port)) None) x)
-    (ap (λ n. Some (sides.Made n port)) (place_stands names.names t.from _ _ (h.placed t)) ∙ lone_made v.text (scope_number s) t port (name_meant v t))
+    (ap (λ n. Some (sides.Made n port)) (place_stands names.names t.from _ _ (h.located t)) ∙ lone_made v.text (scope_number s) t port (name_meant v t))
   where
     own : Option Side
     own = Some (sides.Made (place_at names.names t.from (declared_place names s (bytes_of names.text (word t)))) port)
 
-source_agrees : (names : Names) (s : Scope) (v : Sight) → Sees names s v → (e : EndTree) → source names s (end_of e) ≡ side_left v e
+source_agrees : (names : Names) (s : Scope) (v : Sight) → Sees names s v → (e : EndpointTree) → source names s (endpoint_of e) ≡ side_left v e
 unfolding source
 source_agrees names s v h e = ap (λ n. item_side names s (codes "input") n (item_of e.item)) (port_number e.output) ∙ side_agrees names s v h (codes "input") (port_value e.output) e.item
 
-sink_agrees : (names : Names) (s : Scope) (v : Sight) → Sees names s v → (e : EndTree) → sink names s (end_of e) ≡ side_reached v e
+sink_agrees : (names : Names) (s : Scope) (v : Sight) → Sees names s v → (e : EndpointTree) → sink names s (endpoint_of e) ≡ side_reached v e
 unfolding sink
 sink_agrees names s v h e = ap (λ n. item_side names s (codes "output") n (item_of e.item)) (port_number e.input) ∙ side_agrees names s v h (codes "output") (port_value e.input) e.item
 
@@ -212,23 +212,23 @@ joining_same arrow None b = refl
 joining_same arrow (Some a) None = refl
 joining_same arrow (Some a) (Some b) = refl
 
-joining_agrees : (names : Names) (s : Scope) (v : Sight) → Sees names s v → (arrow : ℕ) (e f : EndTree) → joining arrow (source names s (end_of e)) (sink names s (end_of f)) ≡ joining_of arrow (side_left v e) (side_reached v f)
+joining_agrees : (names : Names) (s : Scope) (v : Sight) → Sees names s v → (arrow : ℕ) (e f : EndpointTree) → joining arrow (source names s (endpoint_of e)) (sink names s (endpoint_of f)) ≡ joining_of arrow (side_left v e) (side_reached v f)
 joining_agrees names s v h arrow e f =
-    ap (λ x. joining arrow x (sink names s (end_of f))) (source_agrees names s v h e)
+    ap (λ x. joining arrow x (sink names s (endpoint_of f))) (source_agrees names s v h e)
     ∙ ap (joining arrow (side_left v e)) (sink_agrees names s v h f)
     ∙ joining_same arrow (side_left v e) (side_reached v f)
 
--- What a connection leaves counts for the part behind it alone.
-pub any_before : (names : Names) (s : Scope) (ws : List Word) (a b : Option Side) (ps : List Part) → is_joined ps ≡ false → moments_from names s ws a ps ≡ moments_from names s ws b ps
+-- What a connection leaves counts for the phrase behind it alone.
+pub any_before : (names : Names) (s : Scope) (ws : List Word) (a b : Option Side) (ps : List Phrase) → is_joined ps ≡ false → moments_from names s ws a ps ≡ moments_from names s ws b ps
 unfolding moments_from part_moments
 any_before names s ws a b [] h = refl
-any_before names s ws a b (parts.First e ∷ ps) h = refl
-any_before names s ws a b (parts.Next arrow e ∷ ps) h = absurd (let x : true ≡ false = h in cc)
-any_before names s ws a b (parts.Declared w ∷ ps) h = refl
-any_before names s ws a b (parts.Made u ∷ ps) h = refl
-any_before names s ws a b (parts.Class w ∷ ps) h = refl
-any_before names s ws a b (parts.Parameter w ∷ ps) h = refl
-any_before names s ws a b (parts.Close ∷ ps) h = refl
+any_before names s ws a b (phrases.First e ∷ ps) h = refl
+any_before names s ws a b (phrases.Next arrow e ∷ ps) h = absurd (let x : true ≡ false = h in cc)
+any_before names s ws a b (phrases.Declared w ∷ ps) h = refl
+any_before names s ws a b (phrases.Made u ∷ ps) h = refl
+any_before names s ws a b (phrases.Class w ∷ ps) h = refl
+any_before names s ws a b (phrases.Parameter w ∷ ps) h = refl
+any_before names s ws a b (phrases.Close ∷ ps) h = refl
 
 -- a list of declarations, with what is declared first taken to what is behind it or before it
 there_now : (earlier xs ys rest : List Declaration) → earlier ++ (xs ++ ys ++ rest) ≡ earlier ++ (xs ++ (ys ++ rest))
@@ -240,14 +240,14 @@ there_later earlier xs ys rest = there_now earlier xs ys rest ∙ sym (append_as
 regroup : (a b c r : List Moment) → a ++ b ++ (c ++ r) ≡ a ++ (b ++ c) ++ r
 regroup a b c r = append_assoc a b (c ++ r) ∙ ap (λ xs. a ++ xs) (sym (append_assoc b c r)) ∙ sym (append_assoc a (b ++ c) r)
 
-next_agrees : (names : Names) (s : Scope) (v : Sight) → Sees names s v → (earlier rest : List Declaration) (e : EndTree) (more : List (Token × EndTree)) (ps : List Part) → is_joined ps ≡ false
+next_agrees : (names : Names) (s : Scope) (v : Sight) → Sees names s v → (earlier rest : List Declaration) (e : EndpointTree) (more : List (Token × EndpointTree)) (ps : List Phrase) → is_joined ps ≡ false
     → v.declared ≡ earlier ++ (declared_next v.classes more ++ rest)
-    → moments_from names s [] (source names s (end_of e)) (next_ends more ++ ps) ≡ moments_of_next v earlier e more ++ moments_from names s [] None ps
+    → moments_from names s [] (source names s (endpoint_of e)) (next_endpoints more ++ ps) ≡ moments_of_next v earlier e more ++ moments_from names s [] None ps
 unfolding moments_from part_moments side_behind moments_of_next declared_next
-next_agrees names s v h earlier rest e [] ps j q = any_before names s [] (source names s (end_of e)) None ps j
+next_agrees names s v h earlier rest e [] ps j q = any_before names s [] (source names s (endpoint_of e)) None ps j
 next_agrees names s v h earlier rest e (next ∷ more) ps j q =
-    ap (λ b. end_moments names s true b (end_of next.1) ++ joining next.0.from (source names s (end_of e)) (sink names s (end_of next.1)) ++ behind) (joined_next more ps j)
-    ∙ ap (λ xs. xs ++ joining next.0.from (source names s (end_of e)) (sink names s (end_of next.1)) ++ behind)
+    ap (λ b. end_moments names s true b (endpoint_of next.1) ++ joining next.0.from (source names s (endpoint_of e)) (sink names s (endpoint_of next.1)) ++ behind) (joined_next more ps j)
+    ∙ ap (λ xs. xs ++ joining next.0.from (source names s (endpoint_of e)) (sink names s (endpoint_of next.1)) ++ behind)
     (end_agrees names s v h earlier (declared_next v.classes more ++ rest) true (has_next more) next.1 (q ∙ there_now earlier (declared_item v.classes next.1.item) (declared_next v.classes more) rest))
     ∙ ap (λ xs. moments_of_end v earlier true (has_next more) next.1 ++ xs ++ behind) (joining_agrees names s v h next.0.from e next.1)
     ∙ ap (λ xs. moments_of_end v earlier true (has_next more) next.1 ++ joining_of next.0.from (side_left v e) (side_reached v next.1) ++ xs)
@@ -256,7 +256,7 @@ next_agrees names s v h earlier rest e (next ∷ more) ps j q =
     (moments_of_next v (earlier ++ declared_item v.classes next.1.item) next.1 more) (moments_from names s [] None ps)
   where
     behind : List Moment
-    behind = moments_from names s [] (source names s (end_of next.1)) (next_ends more ++ ps)
+    behind = moments_from names s [] (source names s (endpoint_of next.1)) (next_endpoints more ++ ps)
 
 -- the names before one `::`
 abbrev words : List (Token × Token) → List Word
@@ -265,13 +265,13 @@ words more = map (λ x. word x.1) more
 abbrev made_moments : Names → Scope → UseTree → List Word → List Moment
 made_moments names s u ws = using names s (word u.class) ++ (rooming names s (use_of u) ws ++ group_moments names s (use_of u) ws)
 
-more_agrees : (names : Names) (s : Scope) (v : Sight) → Sees names s v → (earlier rest : List Declaration) (u : UseTree) (ws : List Word) (before : Option Side) (more : List (Token × Token)) (ps : List Part)
+more_agrees : (names : Names) (s : Scope) (v : Sight) → Sees names s v → (earlier rest : List Declaration) (u : UseTree) (ws : List Word) (before : Option Side) (more : List (Token × Token)) (ps : List Phrase)
     → v.declared ≡ earlier ++ (declared_more v.classes u more ++ rest)
-    → moments_from names s ws before (more_names more ++ parts.Made (use_of u) ∷ [] ++ ps) ≡ names_of_group v earlier u more ++ (made_moments names s u (ws ++ words more) ++ moments_from names s [] None ps)
+    → moments_from names s ws before (more_names more ++ phrases.Made (use_of u) ∷ [] ++ ps) ≡ names_of_group v earlier u more ++ (made_moments names s u (ws ++ words more) ++ moments_from names s [] None ps)
 unfolding moments_from part_moments side_behind names_of_group declared_more
 more_agrees names s v h earlier rest u ws before [] ps q = ap (λ xs. made_moments names s u xs ++ moments_from names s [] None ps) (sym (append-nil ws))
 more_agrees names s v h earlier rest u ws before (next ∷ more) ps q =
-    ap (λ xs. xs ++ moments_from names s (ws ++ word next.1 ∷ []) None (more_names more ++ parts.Made (use_of u) ∷ [] ++ ps)) (naming_agrees names s v h earlier (declaration v.classes u next.1) (declared_more v.classes u more ++ rest) q)
+    ap (λ xs. xs ++ moments_from names s (ws ++ word next.1 ∷ []) None (more_names more ++ phrases.Made (use_of u) ∷ [] ++ ps)) (naming_agrees names s v h earlier (declaration v.classes u next.1) (declared_more v.classes u more ++ rest) q)
     ∙ ap (λ xs. naming_of v earlier next.1 ++ xs)
     (more_agrees names s v h (earlier ++ declaration v.classes u next.1 ∷ []) rest u (ws ++ word next.1 ∷ []) None more ps (q ∙ sym (append_assoc earlier (declaration v.classes u next.1 ∷ []) (declared_more v.classes u more ++ rest))))
     ∙ sym (append_assoc (naming_of v earlier next.1) (names_of_group v (earlier ++ declaration v.classes u next.1 ∷ []) u more) (made_moments names s u (ws ++ word next.1 ∷ [] ++ words more) ++ moments_from names s [] None ps))
@@ -306,19 +306,19 @@ made_agrees names s v h u first more =
     ∙ ap (λ xs. using_of v u.class ++ (rooming_of v u more ++ (counting_of v u ++ (xs ++ group_moments names s (use_of u) (words more))))) (making_agrees names s v h (Some (word first)) u)
     ∙ ap (λ xs. using_of v u.class ++ (rooming_of v u more ++ (counting_of v u ++ (making_of v (Some (word first)) u ++ xs)))) (group_agrees names s v h u more)
 
-pub statement_agrees : (names : Names) (s : Scope) (v : Sight) → Sees names s v → (earlier rest : List Declaration) (st : StatementTree) (ps : List Part) → is_joined ps ≡ false
+pub statement_agrees : (names : Names) (s : Scope) (v : Sight) → Sees names s v → (earlier rest : List Declaration) (st : StatementTree) (ps : List Phrase) → is_joined ps ≡ false
     → v.declared ≡ earlier ++ (declared_statement v.classes st ++ rest)
-    → moments_from names s [] None (statement_parts st ++ ps) ≡ moments_of_statement v earlier st ++ moments_from names s [] None ps
+    → moments_from names s [] None (statement_phrases st ++ ps) ≡ moments_of_statement v earlier st ++ moments_from names s [] None ps
 unfolding moments_from part_moments side_behind moments_of_statement declared_statement
 statement_agrees names s v h earlier rest (connect e more) ps j q =
-    ap (λ b. end_moments names s false b (end_of e) ++ moments_from names s [] (source names s (end_of e)) (next_ends more ++ ps)) (joined_next more ps j)
-    ∙ ap (λ xs. xs ++ moments_from names s [] (source names s (end_of e)) (next_ends more ++ ps))
+    ap (λ b. end_moments names s false b (endpoint_of e) ++ moments_from names s [] (source names s (endpoint_of e)) (next_endpoints more ++ ps)) (joined_next more ps j)
+    ∙ ap (λ xs. xs ++ moments_from names s [] (source names s (endpoint_of e)) (next_endpoints more ++ ps))
     (end_agrees names s v h earlier (declared_next v.classes more ++ rest) false (has_next more) e (q ∙ there_now earlier (declared_item v.classes e.item) (declared_next v.classes more) rest))
     ∙ ap (λ xs. moments_of_end v earlier false (has_next more) e ++ xs)
     (next_agrees names s v h (earlier ++ declared_item v.classes e.item) rest e more ps j (q ∙ there_later earlier (declared_item v.classes e.item) (declared_next v.classes more) rest))
     ∙ sym (append_assoc (moments_of_end v earlier false (has_next more) e) (moments_of_next v (earlier ++ declared_item v.classes e.item) e more) (moments_from names s [] None ps))
 statement_agrees names s v h earlier rest (declare first next more colons last) ps j q =
-    ap (λ xs. xs ++ moments_from names s (word first ∷ []) None (more_names (next ∷ more) ++ parts.Made (use_of last) ∷ [] ++ ps)) (naming_agrees names s v h earlier (declaration v.classes last first) (declared_more v.classes last (next ∷ more) ++ rest) q)
+    ap (λ xs. xs ++ moments_from names s (word first ∷ []) None (more_names (next ∷ more) ++ phrases.Made (use_of last) ∷ [] ++ ps)) (naming_agrees names s v h earlier (declaration v.classes last first) (declared_more v.classes last (next ∷ more) ++ rest) q)
     ∙ ap (λ xs. naming_of v earlier first ++ xs)
     (more_agrees names s v h (earlier ++ declaration v.classes last first ∷ []) rest last (word first ∷ []) None (next ∷ more) ps
     (q ∙ sym (append_assoc earlier (declaration v.classes last first ∷ []) (declared_more v.classes last (next ∷ more) ++ rest))))
@@ -332,15 +332,15 @@ statement_agrees names s v h earlier rest (declare first next more colons last) 
     all : List Moment
     all = using_of v last.class ++ (rooming_of v last (next ∷ more) ++ (counting_of v last ++ (making_of v (Some (word first)) last ++ making_of_group v last (next ∷ more))))
 
-pub body_agrees : (names : Names) (s : Scope) (v : Sight) → Sees names s v → (earlier rest : List Declaration) (us : List InnerTree) (ps : List Part) → is_joined ps ≡ false
+pub body_agrees : (names : Names) (s : Scope) (v : Sight) → Sees names s v → (earlier rest : List Declaration) (us : List InnerTree) (ps : List Phrase) → is_joined ps ≡ false
     → v.declared ≡ earlier ++ (declared_body v.classes us ++ rest)
-    → moments_from names s [] None (body_parts us ++ ps) ≡ moments_of_body v earlier us ++ moments_from names s [] None ps
+    → moments_from names s [] None (body_phrases us ++ ps) ≡ moments_of_body v earlier us ++ moments_from names s [] None ps
 unfolding moments_of_body declared_body
 body_agrees names s v h earlier rest [] ps j q = refl
 body_agrees names s v h earlier rest (sign t ∷ us) ps j q = body_agrees names s v h earlier rest us ps j q
 body_agrees names s v h earlier rest (plain st ∷ us) ps j q =
-    ap (moments_from names s [] None) (append_assoc (statement_parts st) (body_parts us) ps)
-    ∙ statement_agrees names s v h earlier (declared_body v.classes us ++ rest) st (body_parts us ++ ps) (joined_body us ps j) (q ∙ there_now earlier (declared_statement v.classes st) (declared_body v.classes us) rest)
+    ap (moments_from names s [] None) (append_assoc (statement_phrases st) (body_phrases us) ps)
+    ∙ statement_agrees names s v h earlier (declared_body v.classes us ++ rest) st (body_phrases us ++ ps) (joined_body us ps j) (q ∙ there_now earlier (declared_statement v.classes st) (declared_body v.classes us) rest)
     ∙ ap (λ xs. moments_of_statement v earlier st ++ xs)
     (body_agrees names s v h (earlier ++ declared_statement v.classes st) rest us ps j (q ∙ there_later earlier (declared_statement v.classes st) (declared_body v.classes us) rest))
     ∙ sym (append_assoc (moments_of_statement v earlier st) (moments_of_body v (earlier ++ declared_statement v.classes st) us) (moments_from names s [] None ps))

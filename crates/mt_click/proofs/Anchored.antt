@@ -4,12 +4,12 @@ use Rattle.std.specs.List.{AllByRecursion}
 use Rattle.std.specs.Str.{bytes_eq}
 use Rattle.std.proofs.lemmas.List.Elements.{Contains-append_left, Contains-append_right}
 use Rattle.mt_syntax.specs.declared.token.Token.{Token}
-use Rattle.mt_syntax.specs.declared.part.Word.{Word}
-use Rattle.mt_syntax.specs.declared.part.Use.{Use}
+use Rattle.mt_syntax.specs.declared.word.Word.{Word}
+use Rattle.mt_syntax.specs.declared.phrase.Use.{Use}
 use Rattle.mt_click.specs.declared.moment.Side.{Side}
 use Rattle.mt_click.specs.declared.moment.Side.TheVariants as sides
 use Rattle.mt_syntax.specs.Reading.{word}
-use Rattle.mt_syntax.specs.Grammar.{UseTree, use_of, PortTree, ItemTree, alone, named, made, EndTree, StatementTree, connect, declare, InnerTree, sign, plain, ClassTree, OuterTree, outer, class}
+use Rattle.mt_syntax.specs.Grammar.{UseTree, use_of, PortTree, ItemTree, alone, named, made, EndpointTree, StatementTree, connect, declare, InnerTree, sign, plain, ClassTree, OuterTree, outer, class}
 use Rattle.mt_click.specs.Declarations.{spelling, Declaration, declared_under, port_value}
 use Rattle.mt_click.specs.Acts.{Sight, is_border, class_meant, name_meant, Act, join, making_act, make, bare_use, lone, item_acts, item_class, coming, leaving, end_acts, lone_side, side, side_left, side_reached, joining, has_next, next_acts, group_acts, statement_acts, body_acts, outside_acts}
 use Rattle.mt_click.specs.Elements.{own_place}
@@ -77,7 +77,7 @@ side_at ns s all border port (named t colons u) h = make_there ns s (Some (word 
 side_at ns s all border port (made t a) h = make_there ns s None (record { class = t; arguments = Some a }) h
 side_at ns s all border port (alone t) h = alone_at ns s all t port (is_border s t) (bytes_eq (spelling s.text t) border) h
 
-end_lies : (ns : List ℕ) (s : Sight) (next joined : Bool) (e : EndTree) → Lie ns (end_acts s next joined e) → Lie ns (item_acts s e.item)
+end_lies : (ns : List ℕ) (s : Sight) (next joined : Bool) (e : EndpointTree) → Lie ns (end_acts s next joined e) → Lie ns (item_acts s e.item)
 unfolding end_acts
 end_lies ns s next joined e h =
     let first = coming next (item_class s e.item) e.input in
@@ -117,7 +117,7 @@ leaving_held ns true (Some x) port = (tt, tt)
 leaving_held ns true None port = tt
 leaving_held ns false o port = tt
 
-end_held : (ns : List ℕ) (s : Sight) (next joined : Bool) (e : EndTree) → AreHeld ns (end_acts s next joined e)
+end_held : (ns : List ℕ) (s : Sight) (next joined : Bool) (e : EndpointTree) → AreHeld ns (end_acts s next joined e)
 unfolding end_acts
 end_held ns s next joined e =
     let first = coming next (item_class s e.item) e.input in
@@ -130,7 +130,7 @@ joining_held ns arrow (Some a) (Some b) h k = ((h, k), tt)
 joining_held ns arrow (Some a) None h k = tt
 joining_held ns arrow None b h k = tt
 
-next_held : (ns : List ℕ) (s : Sight) → AreMade ns s.declared → (e : EndTree) (more : List (Token × EndTree)) → Lie ns (item_acts s e.item) → Lie ns (next_acts s e more) → AreHeld ns (next_acts s e more)
+next_held : (ns : List ℕ) (s : Sight) → AreMade ns s.declared → (e : EndpointTree) (more : List (Token × EndpointTree)) → Lie ns (item_acts s e.item) → Lie ns (next_acts s e more) → AreHeld ns (next_acts s e more)
 unfolding next_acts
 next_held ns s all e [] here h = tt
 next_held ns s all e (next ∷ more) here h =

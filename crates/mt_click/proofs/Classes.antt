@@ -4,10 +4,10 @@ use Rattle.std.specs.Str.{bytes_eq}
 use Rattle.std.proofs.lemmas.Bool.Decides.{nat_tests}
 use Rattle.std.proofs.lemmas.List.{append_assoc, length-append}
 use Rattle.mt_syntax.specs.declared.token.Token.{Token}
-use Rattle.mt_syntax.specs.declared.part.Part.{Part}
-use Rattle.mt_syntax.specs.declared.part.Part.TheVariants as parts
+use Rattle.mt_syntax.specs.declared.phrase.Phrase.{Phrase}
+use Rattle.mt_syntax.specs.declared.phrase.Phrase.TheVariants as phrases
 use Rattle.mt_syntax.specs.Reading.{word}
-use Rattle.mt_syntax.specs.Grammar.{UseTree, use_of, EndTree, StatementTree, connect, declare, InnerTree, sign, plain, ParameterTree, ClassTree, OuterTree, outer, class, next_ends, more_names, statement_parts, body_parts, more_parameters, parameter_parts, class_parts, config_parts}
+use Rattle.mt_syntax.specs.Grammar.{UseTree, use_of, EndpointTree, StatementTree, connect, declare, InnerTree, sign, plain, ParameterTree, ClassTree, OuterTree, outer, class, next_endpoints, more_names, statement_phrases, body_phrases, more_parameters, parameter_phrases, class_phrases, config_phrases}
 use Rattle.mt_click.specs.declared.scope.Scope.{Scope}
 use Rattle.mt_click.specs.declared.table.Entry.{Entry}
 use Rattle.mt_click.specs.Names.{entry, is_entry, first_from, classes_in, below, class_of}
@@ -18,52 +18,52 @@ use Rattle.mt_click.proofs.Firsts.{bytes_sym}
 abbrev pub entry_of_class : ClassTree → Entry
 entry_of_class c = entry 0 0 (word c.name) None
 
-next_none : (more : List (Token × EndTree)) (ps : List Part) → classes_in (next_ends more ++ ps) ≡ classes_in ps
+next_none : (more : List (Token × EndpointTree)) (ps : List Phrase) → classes_in (next_endpoints more ++ ps) ≡ classes_in ps
 unfolding classes_in
 next_none [] ps = refl
 next_none (next ∷ more) ps = next_none more ps
 
-more_none : (more : List (Token × Token)) (u : UseTree) (ps : List Part) → classes_in (more_names more ++ parts.Made (use_of u) ∷ [] ++ ps) ≡ classes_in ps
+more_none : (more : List (Token × Token)) (u : UseTree) (ps : List Phrase) → classes_in (more_names more ++ phrases.Made (use_of u) ∷ [] ++ ps) ≡ classes_in ps
 unfolding classes_in
 more_none [] u ps = refl
 more_none (next ∷ more) u ps = more_none more u ps
 
-statement_none : (s : StatementTree) (ps : List Part) → classes_in (statement_parts s ++ ps) ≡ classes_in ps
+statement_none : (s : StatementTree) (ps : List Phrase) → classes_in (statement_phrases s ++ ps) ≡ classes_in ps
 unfolding classes_in
 statement_none (connect e more) ps = next_none more ps
 statement_none (declare first next more colons last) ps = more_none more last ps
 
-body_none : (us : List InnerTree) (ps : List Part) → classes_in (body_parts us ++ ps) ≡ classes_in ps
+body_none : (us : List InnerTree) (ps : List Phrase) → classes_in (body_phrases us ++ ps) ≡ classes_in ps
 body_none [] ps = refl
 body_none (sign t ∷ us) ps = body_none us ps
-body_none (plain s ∷ us) ps = ap classes_in (append_assoc (statement_parts s) (body_parts us) ps) ∙ statement_none s (body_parts us ++ ps) ∙ body_none us ps
+body_none (plain s ∷ us) ps = ap classes_in (append_assoc (statement_phrases s) (body_phrases us) ps) ∙ statement_none s (body_phrases us ++ ps) ∙ body_none us ps
 
-parameter_none : (more : List (Token × Token)) (ps : List Part) → classes_in (more_parameters more ++ ps) ≡ classes_in ps
+parameter_none : (more : List (Token × Token)) (ps : List Phrase) → classes_in (more_parameters more ++ ps) ≡ classes_in ps
 unfolding classes_in
 parameter_none [] ps = refl
 parameter_none (next ∷ more) ps = parameter_none more ps
 
-parameters_none : (o : Option ParameterTree) (ps : List Part) → classes_in (parameter_parts o ++ ps) ≡ classes_in ps
+parameters_none : (o : Option ParameterTree) (ps : List Phrase) → classes_in (parameter_phrases o ++ ps) ≡ classes_in ps
 unfolding classes_in
 parameters_none None ps = refl
 parameters_none (Some p) ps = parameter_none p.more ps
 
--- the parts of a class, with those behind it
-pub class_split : (c : ClassTree) (ps : List Part) → class_parts c ++ ps ≡ parts.Class (word c.name) ∷ (parameter_parts c.parameters ++ (body_parts c.body ++ parts.Close ∷ ps))
+-- the phrases of a class, with those behind it
+pub class_split : (c : ClassTree) (ps : List Phrase) → class_phrases c ++ ps ≡ phrases.Class (word c.name) ∷ (parameter_phrases c.parameters ++ (body_phrases c.body ++ phrases.Close ∷ ps))
 class_split c ps =
-    ap (λ xs. parts.Class (word c.name) ∷ xs) (append_assoc (parameter_parts c.parameters) (body_parts c.body ++ parts.Close ∷ []) ps
-    ∙ ap (λ xs. parameter_parts c.parameters ++ xs) (append_assoc (body_parts c.body) (parts.Close ∷ []) ps))
+    ap (λ xs. phrases.Class (word c.name) ∷ xs) (append_assoc (parameter_phrases c.parameters) (body_phrases c.body ++ phrases.Close ∷ []) ps
+    ∙ ap (λ xs. parameter_phrases c.parameters ++ xs) (append_assoc (body_phrases c.body) (phrases.Close ∷ []) ps))
 
-class_one : (c : ClassTree) (ps : List Part) → classes_in (class_parts c ++ ps) ≡ entry_of_class c ∷ classes_in ps
+class_one : (c : ClassTree) (ps : List Phrase) → classes_in (class_phrases c ++ ps) ≡ entry_of_class c ∷ classes_in ps
 unfolding classes_in
-class_one c ps = ap classes_in (class_split c ps) ∙ ap (λ xs. entry_of_class c ∷ xs) (parameters_none c.parameters (body_parts c.body ++ parts.Close ∷ ps) ∙ body_none c.body (parts.Close ∷ ps))
+class_one c ps = ap classes_in (class_split c ps) ∙ ap (λ xs. entry_of_class c ∷ xs) (parameters_none c.parameters (body_phrases c.body ++ phrases.Close ∷ ps) ∙ body_none c.body (phrases.Close ∷ ps))
 
-pub classes_agree : (tree : List OuterTree) → classes_in (config_parts tree) ≡ map entry_of_class (classes_of tree)
+pub classes_agree : (tree : List OuterTree) → classes_in (config_phrases tree) ≡ map entry_of_class (classes_of tree)
 unfolding classes_of classes_in
 classes_agree [] = refl
 classes_agree (outer (sign t) ∷ us) = classes_agree us
-classes_agree (outer (plain s) ∷ us) = statement_none s (config_parts us) ∙ classes_agree us
-classes_agree (class c ∷ us) = class_one c (config_parts us) ∙ ap (λ xs. entry_of_class c ∷ xs) (classes_agree us)
+classes_agree (outer (plain s) ∷ us) = statement_none s (config_phrases us) ∙ classes_agree us
+classes_agree (class c ∷ us) = class_one c (config_phrases us) ∙ ap (λ xs. entry_of_class c ∷ xs) (classes_agree us)
 
 -- entries from a place on stand at no place below it
 none_below : (test : Entry → Bool) (n at : ℕ) (es : List Entry) → n ≤ at → below n (first_from test at es) ≡ None

@@ -3,15 +3,15 @@ use Rattle.std.proofs.Common.{◌≡◌, ℕ, List, [], ◌∷◌, ◌++◌, Opt
 use Rattle.std.specs.Prelude.{IfSome}
 use Rattle.std.specs.List.{Contains, AllByRecursion}
 use Rattle.std.specs.Option.{option_map, option_to_list}
-use Rattle.mt_syntax.specs.declared.token.Kind.TheVariants as kinds
+use Rattle.mt_syntax.specs.declared.token.TokenKind.TheVariants as kinds
 use Rattle.mt_syntax.specs.declared.token.Token.{Token}
-use Rattle.mt_syntax.specs.declared.part.Word.{Word}
-use Rattle.mt_syntax.specs.declared.part.Use.{Use}
+use Rattle.mt_syntax.specs.declared.word.Word.{Word}
+use Rattle.mt_syntax.specs.declared.phrase.Use.{Use}
 use Rattle.mt_click.specs.declared.moment.Side.{Side}
 use Rattle.mt_syntax.specs.Reading.{word}
 use Rattle.mt_syntax.specs.Words.{bytes_of}
 use Rattle.mt_syntax.specs.Balance.{IsClosed, AreClosed}
-use Rattle.mt_syntax.specs.Grammar.{UseTree, print_use, IsUse, use_of, PortTree, print_port, ItemTree, alone, named, made, print_item, IsItem, EndTree, print_end, IsEnd, print_ends, AreEnds, print_more, StatementTree, connect, declare, print_statement, IsStatement, InnerTree, sign, plain, print_body, IsBody, ClassTree, print_parameters, print_class, IsClass, OuterTree, outer, class, print_config, IsConfig}
+use Rattle.mt_syntax.specs.Grammar.{UseTree, print_use, IsUse, use_of, PortTree, print_port, ItemTree, alone, named, made, print_item, IsItem, EndpointTree, print_endpoint, IsEndpoint, print_endpoints, AreEndpoints, print_more, StatementTree, connect, declare, print_statement, IsStatement, InnerTree, sign, plain, print_body, IsBody, ClassTree, print_parameters, print_class, IsClass, OuterTree, outer, class, print_config, IsConfig}
 use Rattle.mt_click.specs.Declarations.{Declaration, classes_of}
 use Rattle.mt_click.specs.Acts.{Sight, is_border, class_meant, name_meant, Act, element, expand, making_act, make, bare_use, lone, item_acts, item_class, coming, leaving, end_acts, side_left, side_reached, joining, has_next, next_acts, group_acts, statement_acts, body_acts, outside_acts}
 use Rattle.mt_click.proofs.Ways.{cases_in, none_in}
@@ -87,7 +87,7 @@ joining_closed text arrow (Some a) (Some b) = (tt, tt)
 joining_closed text arrow (Some a) None = tt
 joining_closed text arrow None b = tt
 
-end_closed : (s : Sight) (before behind : Bool) (e : EndTree) → IsEnd e → AreClosed s.text (print_end e) → AreClosedActs s.text (end_acts s before behind e)
+end_closed : (s : Sight) (before behind : Bool) (e : EndpointTree) → IsEndpoint e → AreClosed s.text (print_endpoint e) → AreClosedActs s.text (end_acts s before behind e)
 unfolding end_acts
 end_closed s before behind e right h =
     let last = leaving behind (item_class s e.item) e.output in
@@ -97,14 +97,14 @@ end_closed s before behind e right h =
     (leaving_closed s.text behind (item_class s e.item) e.output))
 
 -- an end, and the further ends of its connection
-ends_closed : (s : Sight) (before : Bool) (e : EndTree) (more : List (Token × EndTree)) → AreEnds e more → AreClosed s.text (print_ends e more) → AreClosedActs s.text (end_acts s before (has_next more) e ++ next_acts s e more)
+ends_closed : (s : Sight) (before : Bool) (e : EndpointTree) (more : List (Token × EndpointTree)) → AreEndpoints e more → AreClosed s.text (print_endpoints e more) → AreClosedActs s.text (end_acts s before (has_next more) e ++ next_acts s e more)
 unfolding next_acts
 ends_closed s before e [] right h = acts_both s.text (end_acts s before false e) [] (end_closed s before false e right.0 h) tt
 ends_closed s before e (next ∷ more) right h =
     let joined = joining next.0.from (side_left s e) (side_reached s next.1) in
-    let later = ends_closed s true next.1 more right.2 (in_back s.text (print_end e) (next.0 ∷ print_ends next.1 more) h).1 in
+    let later = ends_closed s true next.1 more right.2 (in_back s.text (print_endpoint e) (next.0 ∷ print_endpoints next.1 more) h).1 in
     acts_both s.text (end_acts s before true e) (end_acts s true (has_next more) next.1 ++ (joined ++ next_acts s next.1 more))
-    (end_closed s before true e right.0 (in_front s.text (print_end e) (next.0 ∷ print_ends next.1 more) h))
+    (end_closed s before true e right.0 (in_front s.text (print_endpoint e) (next.0 ∷ print_endpoints next.1 more) h))
     (between s.text (end_acts s true (has_next more) next.1) joined (next_acts s next.1 more) (joining_closed s.text next.0.from (side_left s e) (side_reached s next.1)) later)
 
 group_closed : (s : Sight) (u : UseTree) (more : List (Token × Token)) → IsClosedWord s.text (use_of u).arguments → AreClosedActs s.text (group_acts s u more)

@@ -5,11 +5,11 @@ use Rattle.std.specs.Option.{option_map}
 use Rattle.std.proofs.lemmas.Bool.Decides.{nat_tests}
 use Rattle.std.proofs.lemmas.List.{append_assoc, append-nil, map-append, length-append}
 use Rattle.mt_syntax.specs.declared.token.Token.{Token}
-use Rattle.mt_syntax.specs.declared.part.Word.{Word}
-use Rattle.mt_syntax.specs.declared.part.Part.{Part}
-use Rattle.mt_syntax.specs.declared.part.Part.TheVariants as parts
+use Rattle.mt_syntax.specs.declared.word.Word.{Word}
+use Rattle.mt_syntax.specs.declared.phrase.Phrase.{Phrase}
+use Rattle.mt_syntax.specs.declared.phrase.Phrase.TheVariants as phrases
 use Rattle.mt_syntax.specs.Reading.{word}
-use Rattle.mt_syntax.specs.Grammar.{UseTree, use_of, ItemTree, named, alone, made, item_of, EndTree, StatementTree, connect, declare, InnerTree, sign, plain, ParameterTree, ClassTree, OuterTree, outer, class, next_ends, more_names, statement_parts, body_parts, more_parameters, parameter_parts, class_parts, config_parts}
+use Rattle.mt_syntax.specs.Grammar.{UseTree, use_of, ItemTree, named, alone, made, item_of, EndpointTree, StatementTree, connect, declare, InnerTree, sign, plain, ParameterTree, ClassTree, OuterTree, outer, class, next_endpoints, more_names, statement_phrases, body_phrases, more_parameters, parameter_phrases, class_phrases, config_phrases}
 use Rattle.mt_click.specs.declared.scope.Scope.{Scope}
 use Rattle.mt_click.specs.declared.table.Entry.{Entry}
 use Rattle.mt_click.specs.Scopes.{scope_number}
@@ -45,12 +45,12 @@ item_entries text cl s classes knows (alone t) = refl
 item_entries text cl s classes knows (made t a) = refl
 item_entries text cl s classes knows (named t c u) = ap (λ k. entry (scope_number s) 0 (word t) k ∷ []) (knows (spelling text u.class))
 
-next_entries : (text : List ℕ) (cl : List Entry) (s : Scope) (classes : List ClassTree) → Knows text cl s classes → (more : List (Token × EndTree)) (ps : List Part)
-    → names_from text cl s [] (next_ends more ++ ps) ≡ map (entry_of text (scope_number s)) (declared_next classes more) ++ names_from text cl s [] ps
+next_entries : (text : List ℕ) (cl : List Entry) (s : Scope) (classes : List ClassTree) → Knows text cl s classes → (more : List (Token × EndpointTree)) (ps : List Phrase)
+    → names_from text cl s [] (next_endpoints more ++ ps) ≡ map (entry_of text (scope_number s)) (declared_next classes more) ++ names_from text cl s [] ps
 unfolding names_from declared_at declared_next
 next_entries text cl s classes knows [] ps = refl
 next_entries text cl s classes knows (next ∷ more) ps =
-    ap (λ es. es ++ names_from text cl s [] (next_ends more ++ ps)) (item_entries text cl s classes knows next.1.item)
+    ap (λ es. es ++ names_from text cl s [] (next_endpoints more ++ ps)) (item_entries text cl s classes knows next.1.item)
     ∙ ap (λ es. map (entry_of text (scope_number s)) (declared_item classes next.1.item) ++ es) (next_entries text cl s classes knows more ps)
     ∙ mapped (entry_of text (scope_number s)) (declared_item classes next.1.item) (declared_next classes more) (names_from text cl s [] ps)
 
@@ -62,8 +62,8 @@ made_same : (text : List ℕ) (cl : List Entry) (s : Scope) (classes : List Clas
 unfolding class_declared
 made_same text cl s classes knows u t = ap (λ k. entry (scope_number s) 0 (word t) k) (knows (spelling text u.class))
 
-more_entries : (text : List ℕ) (cl : List Entry) (s : Scope) (classes : List ClassTree) → Knows text cl s classes → (u : UseTree) (ws : List Word) (more : List (Token × Token)) (ps : List Part)
-    → names_from text cl s ws (more_names more ++ parts.Made (use_of u) ∷ [] ++ ps) ≡ map (made_entry text cl s u) ws ++ (map (entry_of text (scope_number s)) (declared_more classes u more) ++ names_from text cl s [] ps)
+more_entries : (text : List ℕ) (cl : List Entry) (s : Scope) (classes : List ClassTree) → Knows text cl s classes → (u : UseTree) (ws : List Word) (more : List (Token × Token)) (ps : List Phrase)
+    → names_from text cl s ws (more_names more ++ phrases.Made (use_of u) ∷ [] ++ ps) ≡ map (made_entry text cl s u) ws ++ (map (entry_of text (scope_number s)) (declared_more classes u more) ++ names_from text cl s [] ps)
 unfolding names_from declared_at declared_more
 more_entries text cl s classes knows u ws [] ps = refl
 more_entries text cl s classes knows u ws (next ∷ more) ps =
@@ -75,45 +75,45 @@ more_entries text cl s classes knows u ws (next ∷ more) ps =
     rest : List Entry
     rest = map (entry_of text (scope_number s)) (declared_more classes u more) ++ names_from text cl s [] ps
 
-statement_entries : (text : List ℕ) (cl : List Entry) (s : Scope) (classes : List ClassTree) → Knows text cl s classes → (st : StatementTree) (ps : List Part)
-    → names_from text cl s [] (statement_parts st ++ ps) ≡ map (entry_of text (scope_number s)) (declared_statement classes st) ++ names_from text cl s [] ps
+statement_entries : (text : List ℕ) (cl : List Entry) (s : Scope) (classes : List ClassTree) → Knows text cl s classes → (st : StatementTree) (ps : List Phrase)
+    → names_from text cl s [] (statement_phrases st ++ ps) ≡ map (entry_of text (scope_number s)) (declared_statement classes st) ++ names_from text cl s [] ps
 unfolding names_from declared_at declared_statement
 statement_entries text cl s classes knows (connect e more) ps =
-    ap (λ es. es ++ names_from text cl s [] (next_ends more ++ ps)) (item_entries text cl s classes knows e.item)
+    ap (λ es. es ++ names_from text cl s [] (next_endpoints more ++ ps)) (item_entries text cl s classes knows e.item)
     ∙ ap (λ es. map (entry_of text (scope_number s)) (declared_item classes e.item) ++ es) (next_entries text cl s classes knows more ps)
     ∙ mapped (entry_of text (scope_number s)) (declared_item classes e.item) (declared_next classes more) (names_from text cl s [] ps)
 statement_entries text cl s classes knows (declare first next more colons last) ps =
     more_entries text cl s classes knows last (word first ∷ []) (next ∷ more) ps
     ∙ ap (λ e. e ∷ (map (entry_of text (scope_number s)) (declared_more classes last (next ∷ more)) ++ names_from text cl s [] ps)) (made_same text cl s classes knows last first)
 
-body_entries : (text : List ℕ) (cl : List Entry) (s : Scope) (classes : List ClassTree) → Knows text cl s classes → (us : List InnerTree) (ps : List Part)
-    → names_from text cl s [] (body_parts us ++ ps) ≡ map (entry_of text (scope_number s)) (declared_body classes us) ++ names_from text cl s [] ps
+body_entries : (text : List ℕ) (cl : List Entry) (s : Scope) (classes : List ClassTree) → Knows text cl s classes → (us : List InnerTree) (ps : List Phrase)
+    → names_from text cl s [] (body_phrases us ++ ps) ≡ map (entry_of text (scope_number s)) (declared_body classes us) ++ names_from text cl s [] ps
 unfolding declared_body
 body_entries text cl s classes knows [] ps = refl
 body_entries text cl s classes knows (sign t ∷ us) ps = body_entries text cl s classes knows us ps
 body_entries text cl s classes knows (plain st ∷ us) ps =
-    ap (names_from text cl s []) (append_assoc (statement_parts st) (body_parts us) ps)
-    ∙ statement_entries text cl s classes knows st (body_parts us ++ ps)
+    ap (names_from text cl s []) (append_assoc (statement_phrases st) (body_phrases us) ps)
+    ∙ statement_entries text cl s classes knows st (body_phrases us ++ ps)
     ∙ ap (λ es. map (entry_of text (scope_number s)) (declared_statement classes st) ++ es) (body_entries text cl s classes knows us ps)
     ∙ mapped (entry_of text (scope_number s)) (declared_statement classes st) (declared_body classes us) (names_from text cl s [] ps)
 
-parameter_entries : (text : List ℕ) (cl : List Entry) (s : Scope) (more : List (Token × Token)) (ps : List Part) → names_from text cl s [] (more_parameters more ++ ps) ≡ names_from text cl s [] ps
+parameter_entries : (text : List ℕ) (cl : List Entry) (s : Scope) (more : List (Token × Token)) (ps : List Phrase) → names_from text cl s [] (more_parameters more ++ ps) ≡ names_from text cl s [] ps
 unfolding names_from declared_at
 parameter_entries text cl s [] ps = refl
 parameter_entries text cl s (next ∷ more) ps = parameter_entries text cl s more ps
 
-parameters_entries : (text : List ℕ) (cl : List Entry) (s : Scope) (o : Option ParameterTree) (ps : List Part) → names_from text cl s [] (parameter_parts o ++ ps) ≡ names_from text cl s [] ps
+parameters_entries : (text : List ℕ) (cl : List Entry) (s : Scope) (o : Option ParameterTree) (ps : List Phrase) → names_from text cl s [] (parameter_phrases o ++ ps) ≡ names_from text cl s [] ps
 unfolding names_from declared_at
 parameters_entries text cl s None ps = refl
 parameters_entries text cl s (Some p) ps = parameter_entries text cl s p.more ps
 
-class_entries : (text : List ℕ) (cl : List Entry) (n : ℕ) (classes : List ClassTree) → Knows text cl (in_at n) classes → (c : ClassTree) (ps : List Part)
-    → names_from text cl (out_at n) [] (class_parts c ++ ps) ≡ map (entry_of text (n + 1)) (declared_body classes c.body) ++ names_from text cl (out_at (n + 1)) [] ps
+class_entries : (text : List ℕ) (cl : List Entry) (n : ℕ) (classes : List ClassTree) → Knows text cl (in_at n) classes → (c : ClassTree) (ps : List Phrase)
+    → names_from text cl (out_at n) [] (class_phrases c ++ ps) ≡ map (entry_of text (n + 1)) (declared_body classes c.body) ++ names_from text cl (out_at (n + 1)) [] ps
 unfolding names_from declared_at
 class_entries text cl n classes knows c ps =
     ap (names_from text cl (out_at n) []) (class_split c ps)
-    ∙ parameters_entries text cl (in_at n) c.parameters (body_parts c.body ++ parts.Close ∷ ps)
-    ∙ body_entries text cl (in_at n) classes knows c.body (parts.Close ∷ ps)
+    ∙ parameters_entries text cl (in_at n) c.parameters (body_phrases c.body ++ phrases.Close ∷ ps)
+    ∙ body_entries text cl (in_at n) classes knows c.body (phrases.Close ∷ ps)
 
 -- the entries of all names, in the order of the text
 abbrev pub entries_of : List ℕ → List ClassTree → List OuterTree → List Entry
@@ -132,16 +132,16 @@ pub moved_on : (cl : List Entry) (classes : List ClassTree) (c : ClassTree) (res
 moved_on cl classes c rest e = e ∙ ap (map entry_of_class) (sym (append_assoc classes (c ∷ []) rest))
 
 pub names_agree : (text : List ℕ) (cl : List Entry) (classes : List ClassTree) (us : List OuterTree) → cl ≡ map entry_of_class (classes ++ classes_of us)
-    → names_from text cl (out_at (length classes)) [] (config_parts us) ≡ entries_of text classes us
+    → names_from text cl (out_at (length classes)) [] (config_phrases us) ≡ entries_of text classes us
 unfolding names_from classes_of
 names_agree text cl classes [] e = refl
 names_agree text cl classes (outer (sign t) ∷ us) e = names_agree text cl classes us e
 names_agree text cl classes (outer (plain st) ∷ us) e =
-    statement_entries text cl (out_at (length classes)) classes (knows_all text cl classes (classes_of us) (out_at (length classes)) e refl) st (config_parts us)
+    statement_entries text cl (out_at (length classes)) classes (knows_all text cl classes (classes_of us) (out_at (length classes)) e refl) st (config_phrases us)
     ∙ ap (λ es. map (entry_of text 0) (declared_statement classes st) ++ es) (names_agree text cl classes us e)
 names_agree text cl classes (class c ∷ us) e =
-    class_entries text cl (length classes) classes (knows_all text cl classes (c ∷ classes_of us) (in_at (length classes)) e refl) c (config_parts us)
-    ∙ ap (λ n. map (entry_of text (length classes + 1)) (declared_body classes c.body) ++ names_from text cl (out_at n) [] (config_parts us)) (sym (one_longer classes c))
+    class_entries text cl (length classes) classes (knows_all text cl classes (c ∷ classes_of us) (in_at (length classes)) e refl) c (config_phrases us)
+    ∙ ap (λ n. map (entry_of text (length classes + 1)) (declared_body classes c.body) ++ names_from text cl (out_at n) [] (config_phrases us)) (sym (one_longer classes c))
     ∙ ap (λ es. map (entry_of text (length classes + 1)) (declared_body classes c.body) ++ es) (names_agree text cl (classes ++ c ∷ []) us (moved_on cl classes c (classes_of us) e))
 
 -- entries of another scope

@@ -1,7 +1,7 @@
 -- What an act makes of a state where it may, and what acts build in the same words.
 use Rattle.std.proofs.Common.{ℕ, List, length, nat_lt, Option, Some, None, Bool, cond}
 use Rattle.std.specs.Prelude.{◌==◌, not, is_some}
-use Rattle.mt_syntax.specs.declared.part.Use.{Use}
+use Rattle.mt_syntax.specs.declared.phrase.Use.{Use}
 use Rattle.mt_syntax.specs.declared.replacing.Binding.{Binding}
 use Rattle.mt_syntax.specs.Arguments.{shown}
 use Rattle.mt_syntax.specs.Replacing.{unknown_in}

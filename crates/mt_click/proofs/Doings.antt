@@ -4,12 +4,12 @@ use Rattle.std.specs.List.{AllByRecursion}
 use Rattle.std.specs.Str.{bytes_eq}
 use Rattle.std.proofs.lemmas.List.{append-nil}
 use Rattle.mt_syntax.specs.declared.token.Token.{Token}
-use Rattle.mt_syntax.specs.declared.part.Word.{Word}
-use Rattle.mt_syntax.specs.declared.part.Use.{Use}
+use Rattle.mt_syntax.specs.declared.word.Word.{Word}
+use Rattle.mt_syntax.specs.declared.phrase.Use.{Use}
 use Rattle.mt_click.specs.declared.moment.Side.{Side}
 use Rattle.mt_syntax.specs.Reading.{word}
 use Rattle.mt_syntax.specs.Words.{bytes_of}
-use Rattle.mt_syntax.specs.Grammar.{UseTree, use_of, PortTree, ItemTree, alone, named, made, EndTree, StatementTree, connect, declare, InnerTree, sign, plain, ClassTree, OuterTree, outer, class}
+use Rattle.mt_syntax.specs.Grammar.{UseTree, use_of, PortTree, ItemTree, alone, named, made, EndpointTree, StatementTree, connect, declare, InnerTree, sign, plain, ClassTree, OuterTree, outer, class}
 use Rattle.mt_click.specs.Declarations.{spelling, class_from, Declaration, declaration, declared_item, declared_next, declared_more, declared_statement, declared_body, declared_outside, classes_of}
 use Rattle.mt_click.specs.Acts.{Sight, is_border, class_meant, name_meant, Act, element, expand, making_act, make, bare_use, lone, item_acts, item_class, coming, leaving, end_acts, side_left, side_reached, joining, has_next, next_acts, group_acts, statement_acts, body_acts, outside_acts}
 use Rattle.mt_click.proofs.Networks.{some_same}
@@ -141,7 +141,7 @@ joining_tells text classes arrow (Some a) (Some b) = record { names = refl; stan
 joining_tells text classes arrow (Some a) None = nothing text classes
 joining_tells text classes arrow None b = nothing text classes
 
-end_tells : (classes : List ClassTree) (s : Sight) → Sees classes s → (ds : List ClassTree) (before behind : Bool) (e : EndTree) → Tells s.text classes (end_acts s before behind e) (declared_item ds e.item)
+end_tells : (classes : List ClassTree) (s : Sight) → Sees classes s → (ds : List ClassTree) (before behind : Bool) (e : EndpointTree) → Tells s.text classes (end_acts s before behind e) (declared_item ds e.item)
 unfolding end_acts
 end_tells classes s sees ds before behind e =
     let first = coming before (item_class s e.item) e.input in
@@ -150,7 +150,7 @@ end_tells classes s sees ds before behind e =
     (both s.text classes first (item_acts s e.item ++ last) [] (declared_item ds e.item ++ []) (coming_tells s.text classes before (item_class s e.item) e.input)
     (both s.text classes (item_acts s e.item) last (declared_item ds e.item) [] (item_tells classes s sees ds e.item) (leaving_tells s.text classes behind (item_class s e.item) e.output)))
 
-next_tells : (classes : List ClassTree) (s : Sight) → Sees classes s → (ds : List ClassTree) (e : EndTree) (more : List (Token × EndTree)) → Tells s.text classes (next_acts s e more) (declared_next ds more)
+next_tells : (classes : List ClassTree) (s : Sight) → Sees classes s → (ds : List ClassTree) (e : EndpointTree) (more : List (Token × EndpointTree)) → Tells s.text classes (next_acts s e more) (declared_next ds more)
 unfolding next_acts declared_next
 next_tells classes s sees ds e [] = nothing s.text classes
 next_tells classes s sees ds e (next ∷ more) =

@@ -45,9 +45,9 @@ first_step : (test : Entry → Bool) (at : ℕ) (e : Entry) (es : List Entry) �
 unfolding first_from
 first_step test at e es = refl
 
-pub first_end : (test : Entry → Bool) (at : ℕ) → first_from test at [] ≡ None
+pub first_endpoint : (test : Entry → Bool) (at : ℕ) → first_from test at [] ≡ None
 unfolding first_from
-first_end test at = refl
+first_endpoint test at = refl
 
 -- what is known of the entries before a place, with those from it on
 abbrev pub so_far : Option ℕ → (Entry → Bool) → ℕ → List Entry → Option ℕ
@@ -111,7 +111,7 @@ pub told_all : (text : List ℕ) (m : List (Key × ℕ)) (at : ℕ) (es : List E
 told_all text m at es le told scope number name =
     let test : Entry → Bool = is_entry text scope number name in
     let found = lookup (is_key scope number name) m in
-    let none : first_from test at (drop at es) ≡ None = ap (first_from test at) (drop_of_length-le es le) ∙ first_end test at in
+    let none : first_from test at (drop at es) ≡ None = ap (first_from test at) (drop_of_length-le es le) ∙ first_endpoint test at in
     sym (ap (or_else found) none ∙ or_none found) ∙ told scope number name
 
 pub absent : (r : Option (Bor ℕ)) (l : Option ℕ) (b : Bool) → option_map (λ x. x.now) r ≡ l → is_some r ≡ not b → b ≡ true → l ≡ None

@@ -7,11 +7,11 @@ use Rattle.std.specs.Str.{bytes_eq}
 use Rattle.std.proofs.Math.Bool.{and-true}
 use Rattle.std.proofs.lemmas.Slice.Eq.{bytes_eq-Decides}
 use Rattle.mt_syntax.specs.declared.fault.ClickWhy.TheVariants as whys
-use Rattle.mt_syntax.specs.declared.part.Word.{Word}
-use Rattle.mt_syntax.specs.declared.part.Use.{Use}
+use Rattle.mt_syntax.specs.declared.word.Word.{Word}
+use Rattle.mt_syntax.specs.declared.phrase.Use.{Use}
 use Rattle.mt_syntax.specs.declared.token.Token.{Token}
 use Rattle.mt_syntax.specs.Reading.{word}
-use Rattle.mt_syntax.specs.Grammar.{UseTree, use_of, PortTree, ItemTree, alone, named, made, EndTree, StatementTree, connect, declare, InnerTree, sign, plain, ClassTree, OuterTree, outer, class}
+use Rattle.mt_syntax.specs.Grammar.{UseTree, use_of, PortTree, ItemTree, alone, named, made, EndpointTree, StatementTree, connect, declare, InnerTree, sign, plain, ClassTree, OuterTree, outer, class}
 use Rattle.mt_click.specs.declared.moment.Moment.{Moment}
 use Rattle.mt_click.specs.declared.moment.Moment.TheVariants as moments
 use Rattle.mt_click.specs.declared.moment.Side.{Side}
@@ -131,7 +131,7 @@ module _ (s : Sight) where
   reaching_free ports None n at = refl
   reaching_free ports (Some x) n at = by (is_in n (ports x.0))
     where
-      by : (b : Bool) → is_free (cond b [] (moments.Port (wrong whys.NoPort at) ∷ [])) ≡ true
+      by : (b : Bool) → is_free (cond b [] (moments.PortNumber (wrong whys.NoPort at) ∷ [])) ≡ true
       by true = refl
       by false = refl
 
@@ -148,13 +148,13 @@ module _ (s : Sight) where
       by true = reaching_free ports found 0 at
       by false = refl
 
-  leaving_free : (found : Found) (before behind : Bool) (e : EndTree) → is_free (leaving_out_of s found before behind e) ≡ true
+  leaving_free : (found : Found) (before behind : Bool) (e : EndpointTree) → is_free (leaving_out_of s found before behind e) ≡ true
   unfolding leaving_out_of
   leaving_free found before behind e =
       free_two (left_out_of (inputs_of s.text) found before e.input (first_of e.item)) (left_out_of (outputs_of s.text) found behind e.output (first_of e.item))
       (left_free (inputs_of s.text) found before e.input (first_of e.item)) (left_free (outputs_of s.text) found behind e.output (first_of e.item))
 
-  unnamed_free : (found : Found) (before behind : Bool) (e : EndTree) (u : UseTree) → is_free (unnamed_of s found before behind e u) ≡ (is_apart s u.class && true)
+  unnamed_free : (found : Found) (before behind : Bool) (e : EndpointTree) (u : UseTree) → is_free (unnamed_of s found before behind e u) ≡ (is_apart s u.class && true)
   unfolding unnamed_of
   unnamed_free found before behind e u =
       let left = leaving_out_of s found before behind e in
@@ -162,7 +162,7 @@ module _ (s : Sight) where
       free_both (using_of s u.class) (counting_of s u ++ (left ++ last)) (is_apart s u.class) true (using_free u.class)
       (free_two (counting_of s u) (left ++ last) (counting_free u) (free_two left last (leaving_free found before behind e) (making_free None u)))
 
-  named_free : (earlier : List Declaration) (found : Found) (before behind : Bool) (e : EndTree) (t : Token) (u : UseTree)
+  named_free : (earlier : List Declaration) (found : Found) (before behind : Bool) (e : EndpointTree) (t : Token) (u : UseTree)
       → is_free (named_of s earlier found before behind e t u) ≡ ((is_new earlier t && true) && (is_apart s u.class && true))
   unfolding named_of
   named_free earlier found before behind e t u =
@@ -174,7 +174,7 @@ module _ (s : Sight) where
       (free_two (counting_of s u) (making_of s (Some (word t)) u) (counting_free u) (making_free (Some (word t)) u))))
       ∙ tidied (is_new earlier t) (is_apart s u.class)
 
-  item_free : (earlier : List Declaration) (found : Found) (before behind : Bool) (e : EndTree) (i : ItemTree)
+  item_free : (earlier : List Declaration) (found : Found) (before behind : Bool) (e : EndpointTree) (i : ItemTree)
       → is_free (item_of_end s earlier found before behind e i) ≡ (are_fresh s earlier (declared_item s.classes i) && are_apart s (item_uses s i))
   unfolding item_of_end declared_item item_uses
   item_free earlier found before behind e (named t colons u) = named_free earlier found before behind e t u
@@ -188,7 +188,7 @@ module _ (s : Sight) where
       by false None = unnamed_free found before behind e (bare_use t)
       by false (Some d) = leaving_free found before behind e
 
-  end_free : (earlier : List Declaration) (before behind : Bool) (e : EndTree)
+  end_free : (earlier : List Declaration) (before behind : Bool) (e : EndpointTree)
       → is_free (moments_of_end s earlier before behind e) ≡ (are_fresh s earlier (declared_item s.classes e.item) && are_apart s (item_uses s e.item))
   unfolding moments_of_end whole_of
   end_free earlier before behind e =
@@ -213,7 +213,7 @@ module _ (s : Sight) where
       ∙ ap (λ b. b && (are_apart s us && are_apart s vs)) (sym (fresh_two s earlier xs ys))
       ∙ ap (λ b. are_fresh s earlier (xs ++ ys) && b) (sym (apart_append s us vs))
 
-  next_free : (earlier : List Declaration) (e : EndTree) (more : List (Token × EndTree))
+  next_free : (earlier : List Declaration) (e : EndpointTree) (more : List (Token × EndpointTree))
       → is_free (moments_of_next s earlier e more) ≡ (are_fresh s earlier (declared_next s.classes more) && are_apart s (next_uses s more))
   unfolding moments_of_next declared_next next_uses
   next_free earlier e [] = refl

@@ -2,10 +2,10 @@
 use Rattle.std.proofs.Common.{◌≡◌, ℕ, List, [], ◌∷◌, ◌++◌, inl, inr, subst}
 use Rattle.std.specs.List.{Contains, AllByRecursion}
 use Rattle.std.proofs.lemmas.List.Elements.{Contains-append_left, Contains-append_right}
-use Rattle.mt_syntax.specs.declared.token.Kind.TheVariants as kinds
+use Rattle.mt_syntax.specs.declared.token.TokenKind.TheVariants as kinds
 use Rattle.mt_syntax.specs.declared.token.Token.{Token}
 use Rattle.mt_syntax.specs.Spelled.{IsIdentifier}
-use Rattle.mt_syntax.specs.Grammar.{UseTree, print_use, ItemTree, alone, named, made, print_item, IsItem, EndTree, print_port, print_end, IsEnd, print_ends, AreEnds, print_more, AreMore, StatementTree, connect, declare, print_statement, IsStatement, InnerTree, sign, plain, print_body, IsBody, ClassTree, print_parameters, print_class, IsClass, OuterTree, outer, class, print_config, IsConfig}
+use Rattle.mt_syntax.specs.Grammar.{UseTree, print_use, ItemTree, alone, named, made, print_item, IsItem, EndpointTree, print_port, print_endpoint, IsEndpoint, print_endpoints, AreEndpoints, print_more, AreMore, StatementTree, connect, declare, print_statement, IsStatement, InnerTree, sign, plain, print_body, IsBody, ClassTree, print_parameters, print_class, IsClass, OuterTree, outer, class, print_config, IsConfig}
 use Rattle.mt_click.specs.Declarations.{spelling, Declaration, declared_item, declared_next, declared_more, declared_statement, declared_body, declared_outside, classes_of}
 use Rattle.mt_click.proofs.Ways.{first_in, later_in, cases_in, none_in}
 
@@ -38,17 +38,17 @@ item_identified text classes (alone t) right h = tt
 item_identified text classes (named t colons u) right h = (h t (first_in t (colons ∷ print_use u)) right.0, tt)
 item_identified text classes (made t a) right h = tt
 
-end_identified : (text : List ℕ) (classes : List ClassTree) (e : EndTree) → IsEnd e → AreNames text (print_end e) → AreIdentifiers text (declared_item classes e.item)
+end_identified : (text : List ℕ) (classes : List ClassTree) (e : EndpointTree) → IsEndpoint e → AreNames text (print_endpoint e) → AreIdentifiers text (declared_item classes e.item)
 end_identified text classes e right h =
     item_identified text classes e.item right.1 (in_front text (print_item e.item) (print_port e.output) (in_back text (print_port e.input) (print_item e.item ++ print_port e.output) h))
 
-ends_identified : (text : List ℕ) (classes : List ClassTree) (e : EndTree) (more : List (Token × EndTree)) → AreEnds e more → AreNames text (print_ends e more) → AreIdentifiers text (declared_item classes e.item ++ declared_next classes more)
+ends_identified : (text : List ℕ) (classes : List ClassTree) (e : EndpointTree) (more : List (Token × EndpointTree)) → AreEndpoints e more → AreNames text (print_endpoints e more) → AreIdentifiers text (declared_item classes e.item ++ declared_next classes more)
 unfolding declared_next
 ends_identified text classes e [] right h = both_identified text (declared_item classes e.item) [] (end_identified text classes e right.0 h) tt
 ends_identified text classes e (next ∷ more) right h =
     both_identified text (declared_item classes e.item) (declared_item classes next.1.item ++ declared_next classes more)
-    (end_identified text classes e right.0 (in_front text (print_end e) (next.0 ∷ print_ends next.1 more) h))
-    (ends_identified text classes next.1 more right.2 (in_rest text next.0 (print_ends next.1 more) (in_back text (print_end e) (next.0 ∷ print_ends next.1 more) h)))
+    (end_identified text classes e right.0 (in_front text (print_endpoint e) (next.0 ∷ print_endpoints next.1 more) h))
+    (ends_identified text classes next.1 more right.2 (in_rest text next.0 (print_endpoints next.1 more) (in_back text (print_endpoint e) (next.0 ∷ print_endpoints next.1 more) h)))
 
 more_identified : (text : List ℕ) (classes : List ClassTree) (u : UseTree) (more : List (Token × Token)) → AreMore kinds.Name more → AreNames text (print_more more) → AreIdentifiers text (declared_more classes u more)
 unfolding declared_more

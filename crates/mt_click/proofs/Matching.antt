@@ -6,11 +6,11 @@ use Rattle.std.proofs.lemmas.Bool.Decides.{nat_tests}
 use Rattle.std.proofs.lemmas.List.{length-append}
 use Rattle.std.specs.Option.{option_and_then}
 use Rattle.mt_syntax.specs.declared.fault.ClickWhy.TheVariants as whys
-use Rattle.mt_syntax.specs.declared.part.Word.{Word}
-use Rattle.mt_syntax.specs.declared.part.Use.{Use}
+use Rattle.mt_syntax.specs.declared.word.Word.{Word}
+use Rattle.mt_syntax.specs.declared.phrase.Use.{Use}
 use Rattle.mt_syntax.specs.declared.token.Token.{Token}
 use Rattle.mt_syntax.specs.Reading.{word}
-use Rattle.mt_syntax.specs.Grammar.{UseTree, use_of, PortTree, ItemTree, alone, named, made, EndTree, StatementTree, connect, declare, InnerTree, sign, plain, ClassTree, AreEnds, IsStatement, IsBody}
+use Rattle.mt_syntax.specs.Grammar.{UseTree, use_of, PortTree, ItemTree, alone, named, made, EndpointTree, StatementTree, connect, declare, InnerTree, sign, plain, ClassTree, AreEndpoints, IsStatement, IsBody}
 use Rattle.mt_click.specs.declared.moment.Moment.{Moment}
 use Rattle.mt_click.specs.declared.moment.Moment.TheVariants as moments
 use Rattle.mt_click.specs.declared.moment.Side.{Side}
@@ -90,10 +90,10 @@ parted true true true d x = refl
 parted true true false d x = refl
 
 -- The ports that are written where no `->` is: their classes name them too. In a configuration there are none.
-abbrev pub end_ok : Sight → Bool → Bool → EndTree → Bool
+abbrev pub end_ok : Sight → Bool → Bool → EndpointTree → Bool
 end_ok s before behind e = spare_ok (inputs_of s.text) (item_class s e.item) before e.input && spare_ok (outputs_of s.text) (item_class s e.item) behind e.output
 
-abbrev pub next_ok : Sight → List (Token × EndTree) → Bool
+abbrev pub next_ok : Sight → List (Token × EndpointTree) → Bool
 next_ok s [] = true
 next_ok s (next ∷ more) = end_ok s true (has_next more) next.1 && next_ok s more
 
@@ -110,11 +110,11 @@ none_written : (ports : ClassTree → List ℕ) (found : Found) (port : Option P
 none_written ports found None h = refl
 none_written ports found (Some p) h = absurd (let q : Some p ≡ None = h in cc)
 
-last_ok : (ports : ClassTree → List ℕ) (found : Found) (e : EndTree) (more : List (Token × EndTree)) → AreEnds e more → spare_ok ports found (has_next more) e.output ≡ true
+last_ok : (ports : ClassTree → List ℕ) (found : Found) (e : EndpointTree) (more : List (Token × EndpointTree)) → AreEndpoints e more → spare_ok ports found (has_next more) e.output ≡ true
 last_ok ports found e [] h = none_written ports found e.output h.1
 last_ok ports found e (next ∷ more) h = refl
 
-next_right : (s : Sight) (e : EndTree) (more : List (Token × EndTree)) → AreEnds e more → next_ok s more ≡ true
+next_right : (s : Sight) (e : EndpointTree) (more : List (Token × EndpointTree)) → AreEndpoints e more → next_ok s more ≡ true
 next_right s e [] h = refl
 next_right s e (next ∷ more) h =
     ap (λ b. b && next_ok s more) (last_ok (outputs_of s.text) (item_class s next.1.item) next.1 more h.2) ∙ next_right s next.1 more h.2
@@ -158,9 +158,9 @@ module _ (s : Sight) (bodies : List (List Moment)) (enter : Inner) (within : Wit
   reaching_guards ports None n at es = refl
   reaching_guards ports (Some x) n at es = by (is_in n (ports x.0))
     where
-      by : (b : Bool) → over going (cond b [] (moments.Port (wrong whys.NoPort at) ∷ [])) es ≡ cond b (Some es) None
+      by : (b : Bool) → over going (cond b [] (moments.PortNumber (wrong whys.NoPort at) ∷ [])) es ≡ cond b (Some es) None
       by true = refl
-      by false = over_one going (moments.Port (wrong whys.NoPort at)) es ∙ tries_port s.text bodies enter p es (wrong whys.NoPort at)
+      by false = over_one going (moments.PortNumber (wrong whys.NoPort at)) es ∙ tries_port s.text bodies enter p es (wrong whys.NoPort at)
 
   written_guards : (ports : ClassTree → List ℕ) (found : Found) (port : Option PortTree) → Guards going (written_of ports found port) (written_ok ports found port)
   unfolding written_of
@@ -175,10 +175,10 @@ module _ (s : Sight) (bodies : List (List Moment)) (enter : Inner) (within : Wit
       by true = reaching_guards ports found 0 at es
       by false = refl
 
-  abbrev sides_ok : Found → Bool → Bool → EndTree → Bool
+  abbrev sides_ok : Found → Bool → Bool → EndpointTree → Bool
   sides_ok found before behind e = left_ok (inputs_of s.text) found before e.input && left_ok (outputs_of s.text) found behind e.output
 
-  leaving_guards : (found : Found) (before behind : Bool) (e : EndTree) → Guards going (leaving_out_of s found before behind e) (sides_ok found before behind e)
+  leaving_guards : (found : Found) (before behind : Bool) (e : EndpointTree) → Guards going (leaving_out_of s found before behind e) (sides_ok found before behind e)
   unfolding leaving_out_of
   leaving_guards found before behind e =
       guards_both going (left_out_of (inputs_of s.text) found before e.input (first_of e.item)) (left_out_of (outputs_of s.text) found behind e.output (first_of e.item))
@@ -272,10 +272,10 @@ module _ (s : Sight) (bodies : List (List Moment)) (enter : Inner) (within : Wit
   unfolding counting_of
   counts u = counting_guards s bodies enter within p (use_of u) (class_meant s u.class) (may_know u.class)
 
-  abbrev both_ok : Found → Bool → Bool → EndTree → Bool
+  abbrev both_ok : Found → Bool → Bool → EndpointTree → Bool
   both_ok found before behind e = sides_ok s bodies enter within p found before behind e
 
-  unnamed_alike : (found : Found) (before behind : Bool) (e : EndTree) (u : UseTree) (es : State)
+  unnamed_alike : (found : Found) (before behind : Bool) (e : EndpointTree) (u : UseTree) (es : State)
       → over walking (unnamed_of s found before behind e u) es ≡ cond (both_ok found before behind e) (over acting (make s None u ∷ []) es) None
   unfolding unnamed_of
   unnamed_alike found before behind e u es =
@@ -289,7 +289,7 @@ module _ (s : Sight) (bodies : List (List Moment)) (enter : Inner) (within : Wit
       ∙ swapped c l (over walking last es)
       ∙ ap (λ o. cond l o None) (sym (guarded walking (counting_of s u) last c (counts u) es) ∙ made_alike None u es)
 
-  named_alike : (earlier : List Declaration) (found : Found) (before behind : Bool) (e : EndTree) (t : Token) (u : UseTree) (es : State)
+  named_alike : (earlier : List Declaration) (found : Found) (before behind : Bool) (e : EndpointTree) (t : Token) (u : UseTree) (es : State)
       → over walking (named_of s earlier found before behind e t u) es ≡ cond (both_ok found before behind e) (over acting (make s (Some (word t)) u ∷ []) es) None
   unfolding named_of
   named_alike earlier found before behind e t u es =
@@ -300,7 +300,7 @@ module _ (s : Sight) (bodies : List (List Moment)) (enter : Inner) (within : Wit
       ∙ guarded walking left (using_of s u.class ++ last) l (leaving_guards s bodies enter within p found before behind e) es
       ∙ ap (λ o. cond l o None) (guarded walking (using_of s u.class) last true (using_guards s bodies enter within p u.class) es ∙ made_alike (Some (word t)) u es)
 
-  item_alike : (earlier : List Declaration) (found : Found) (before behind : Bool) (e : EndTree) (i : ItemTree) (es : State)
+  item_alike : (earlier : List Declaration) (found : Found) (before behind : Bool) (e : EndpointTree) (i : ItemTree) (es : State)
       → over walking (item_of_end s earlier found before behind e i) es ≡ cond (both_ok found before behind e) (over acting (item_acts s i) es) None
   unfolding item_of_end item_acts
   item_alike earlier found before behind e (named t colons u) es = named_alike earlier found before behind e t u es
@@ -314,7 +314,7 @@ module _ (s : Sight) (bodies : List (List Moment)) (enter : Inner) (within : Wit
       by false None = unnamed_alike found before behind e (bare_use t) es
       by false (Some d) = leaving_guards s bodies enter within p found before behind e es
 
-  end_alike : (earlier : List Declaration) (before behind : Bool) (e : EndTree)
+  end_alike : (earlier : List Declaration) (before behind : Bool) (e : EndpointTree)
       → AlikeWhere (end_ok s before behind e) walking acting (moments_of_end s earlier before behind e) (end_acts s before behind e)
   unfolding moments_of_end whole_of end_acts
   end_alike earlier before behind e es =
@@ -342,7 +342,7 @@ module _ (s : Sight) (bodies : List (List Moment)) (enter : Inner) (within : Wit
       ∙ ap (λ o. cond comes_ok o None)
       (guarded_behind acting acts (leaving behind found e.output) leaves_ok (outgoing_guards s bodies enter within p behind found e.output) es)))
 
-  next_alike : (earlier : List Declaration) (e : EndTree) (more : List (Token × EndTree)) → AlikeWhere (next_ok s more) walking acting (moments_of_next s earlier e more) (next_acts s e more)
+  next_alike : (earlier : List Declaration) (e : EndpointTree) (more : List (Token × EndpointTree)) → AlikeWhere (next_ok s more) walking acting (moments_of_next s earlier e more) (next_acts s e more)
   unfolding moments_of_next next_acts
   next_alike earlier e [] = λ es. refl
   next_alike earlier e (next ∷ more) =

@@ -11,13 +11,13 @@ use Rattle.std.proofs.Math.Dec.{eqb}
 use Rattle.std.proofs.lemmas.Bool.Decides.{nat_tests}
 use Rattle.mt_syntax.specs.declared.fault.Fault.{Fault}
 use Rattle.mt_syntax.specs.declared.fault.ClickWhy.TheVariants as whys
-use Rattle.mt_syntax.specs.declared.part.Part.{Part}
-use Rattle.mt_syntax.specs.declared.part.Word.{Word}
-use Rattle.mt_syntax.specs.declared.part.Use.{Use}
+use Rattle.mt_syntax.specs.declared.phrase.Phrase.{Phrase}
+use Rattle.mt_syntax.specs.declared.word.Word.{Word}
+use Rattle.mt_syntax.specs.declared.phrase.Use.{Use}
 use Rattle.mt_click.specs.declared.moment.Moment.{Moment}
 use Rattle.mt_click.specs.declared.moment.Moment.TheVariants as moments
 use Rattle.mt_click.specs.declared.walk.Entered.{Entered}
-use Rattle.mt_syntax.specs.Reading.{◌>>=◌, parts_in}
+use Rattle.mt_syntax.specs.Reading.{◌>>=◌, phrases_in}
 use Rattle.mt_click.specs.Moments.{wrong, moments_in}
 use Rattle.mt_click.specs.Building.{built_in}
 use Rattle.mt_click.specs.Elements.{Place, State, with_element, with_use, with_join, empty, element_of, arguments_in, top}
@@ -88,7 +88,7 @@ few_moved text all p es moments.Class h = h
 few_moved text all p es (moments.Parameter w) h = h
 few_moved text all p es moments.Close h = h
 few_moved text all p es (moments.Name f) h = h
-few_moved text all p es (moments.Port f) h = tt
+few_moved text all p es (moments.PortNumber f) h = tt
 few_moved text all p es (moments.Count k u) h = kept (counted text all p.bindings k u) es None h
 few_moved text all p es (moments.Room n u) h = enough (nat_le (length es.elements + n) 512) es (wrong whys.TooManyElements u.class.from) h
 few_moved text all p es (moments.Element name u) h =
@@ -119,7 +119,7 @@ few_walk text all inner keeps p (moments.Close ∷ ms) es h = h
 few_walk text all inner keeps p (moments.Class ∷ ms) es h = few_on (moved text all p es moments.Class) inner p (walk text all inner p ms) (few_moved text all p es moments.Class h) keeps (λ more k. few_walk text all inner keeps p ms more k)
 few_walk text all inner keeps p (moments.Parameter w ∷ ms) es h = few_on (moved text all p es (moments.Parameter w)) inner p (walk text all inner p ms) (few_moved text all p es (moments.Parameter w) h) keeps (λ more k. few_walk text all inner keeps p ms more k)
 few_walk text all inner keeps p (moments.Name f ∷ ms) es h = few_on (moved text all p es (moments.Name f)) inner p (walk text all inner p ms) (few_moved text all p es (moments.Name f) h) keeps (λ more k. few_walk text all inner keeps p ms more k)
-few_walk text all inner keeps p (moments.Port f ∷ ms) es h = few_on (moved text all p es (moments.Port f)) inner p (walk text all inner p ms) (few_moved text all p es (moments.Port f) h) keeps (λ more k. few_walk text all inner keeps p ms more k)
+few_walk text all inner keeps p (moments.PortNumber f ∷ ms) es h = few_on (moved text all p es (moments.PortNumber f)) inner p (walk text all inner p ms) (few_moved text all p es (moments.PortNumber f) h) keeps (λ more k. few_walk text all inner keeps p ms more k)
 few_walk text all inner keeps p (moments.Count k u ∷ ms) es h = few_on (moved text all p es (moments.Count k u)) inner p (walk text all inner p ms) (few_moved text all p es (moments.Count k u) h) keeps (λ more k. few_walk text all inner keeps p ms more k)
 few_walk text all inner keeps p (moments.Room n u ∷ ms) es h = few_on (moved text all p es (moments.Room n u)) inner p (walk text all inner p ms) (few_moved text all p es (moments.Room n u) h) keeps (λ more k. few_walk text all inner keeps p ms more k)
 few_walk text all inner keeps p (moments.Element name u ∷ ms) es h = few_on (moved text all p es (moments.Element name u)) inner p (walk text all inner p ms) (few_moved text all p es (moments.Element name u) h) keeps (λ more k. few_walk text all inner keeps p ms more k)
@@ -151,7 +151,7 @@ few_all text all (moments.Class ∷ ms) known inside es h = few_all text all ms 
 few_all text all (moments.Close ∷ ms) known inside es h = few_all text all ms known false es h
 few_all text all (moments.Name f ∷ ms) known inside es h = tt
 few_all text all (moments.Parameter w ∷ ms) known inside es h = few_top text all known inside (moments.Parameter w) ms es (few_all text all ms) h
-few_all text all (moments.Port f ∷ ms) known inside es h = few_top text all known inside (moments.Port f) ms es (few_all text all ms) h
+few_all text all (moments.PortNumber f ∷ ms) known inside es h = few_top text all known inside (moments.PortNumber f) ms es (few_all text all ms) h
 few_all text all (moments.Count k u ∷ ms) known inside es h = few_top text all known inside (moments.Count k u) ms es (few_all text all ms) h
 few_all text all (moments.Room n u ∷ ms) known inside es h = few_top text all known inside (moments.Room n u) ms es (few_all text all ms) h
 few_all text all (moments.Element name u ∷ ms) known inside es h = few_top text all known inside (moments.Element name u) ms es (few_all text all ms) h
@@ -159,9 +159,9 @@ few_all text all (moments.Join arrow from to ∷ ms) known inside es h = few_top
 few_all text all (moments.Enter k u place ∷ ms) known inside es h = few_top text all known inside (moments.Enter k u place) ms es (few_all text all ms) h
 
 pub few : (text : List ℕ) → AllFew (built_in text)
-few text = by (parts_in text)
+few text = by (phrases_in text)
   where
-    by : (r : Result (List Part) Fault) → AllFew (r >>= λ ps. walked text (moments_in text ps))
+    by : (r : Result (List Phrase) Fault) → AllFew (r >>= λ ps. walked text (moments_in text ps))
     by (Ok ps) = few_all text (bodies_in (moments_in text ps)) (moments_in text ps) 0 false empty (record { few = omega arith; made = λ m c. let lt = c.1 in absurd (omega (arith, lt)) })
     by (Err f) = tt
 

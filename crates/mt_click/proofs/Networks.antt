@@ -2,7 +2,7 @@
 use Rattle.std.proofs.Common.{◌≡◌, ◌↔◌, ℕ, zero, suc, ◌<◌, ◌⊎◌, inl, inr, List, [], ◌∷◌, ◌++◌, length, slice_get, get_or, Some, None, Bool, true, false, refl, sym, ap, ◌∙◌, subst, arith}
 use Rattle.std.specs.List.{Contains, AllByRecursion, IsDistinct}
 use Rattle.std.proofs.lemmas.Option.{slice_get-get_or, slice_get_within, slice_get_read, get_or_from_slice_get}
-use Rattle.mt_ways.specs.Ways.{targets_of, Reaches, here, on, AreBetween}
+use Rattle.mt_reach.specs.Reach.{targets_of, Reaches, here, on, AreBetween}
 use Rattle.mt_click.specs.declared.link.Node.{Node}
 use Rattle.mt_click.specs.declared.link.Link.{Link}
 use Rattle.mt_click.specs.Networks.{StandsAt, Grows, IsPair, IsNetwork}

@@ -3,8 +3,8 @@ use Rattle.std.proofs.Common.{◌≡◌, ◌↔◌, ℕ, suc, ◌<◌, ◌⊎◌
 use Rattle.std.specs.List.{Contains, AllPairs}
 use Rattle.mt_click.specs.declared.link.Way.{Way}
 use Rattle.mt_click.specs.declared.link.Link.{Link}
-use Rattle.mt_click.specs.declared.graph.Wire.{Wire}
-use Rattle.mt_click.specs.declared.graph.Graph.{Graph}
+use Rattle.mt_graph.specs.declared.Wire.{Wire}
+use Rattle.mt_graph.specs.declared.Graph.{Graph}
 use Rattle.mt_syntax.specs.declared.fault.Fault.{Fault}
 use Rattle.mt_click.specs.Elements.{State}
 use Rattle.mt_click.specs.Links.{links_in}

@@ -3,11 +3,11 @@ use Rattle.std.proofs.Common.{ℕ, suc, List, [], ◌∷◌, ◌++◌, length, O
 use Rattle.std.specs.Prelude.{◌&&◌, ◌||◌, not, is_some}
 use Rattle.std.specs.List.{AllByRecursion}
 use Rattle.mt_syntax.specs.declared.fault.ClickWhy.TheVariants as whys
-use Rattle.mt_syntax.specs.declared.part.Word.{Word}
-use Rattle.mt_syntax.specs.declared.part.Use.{Use}
+use Rattle.mt_syntax.specs.declared.word.Word.{Word}
+use Rattle.mt_syntax.specs.declared.phrase.Use.{Use}
 use Rattle.mt_syntax.specs.declared.token.Token.{Token}
 use Rattle.mt_syntax.specs.Reading.{word}
-use Rattle.mt_syntax.specs.Grammar.{UseTree, use_of, PortTree, ItemTree, alone, named, made, EndTree, StatementTree, connect, declare, InnerTree, sign, plain, ClassTree}
+use Rattle.mt_syntax.specs.Grammar.{UseTree, use_of, PortTree, ItemTree, alone, named, made, EndpointTree, StatementTree, connect, declare, InnerTree, sign, plain, ClassTree}
 use Rattle.mt_click.specs.declared.moment.Moment.{Moment}
 use Rattle.mt_click.specs.declared.moment.Moment.TheVariants as moments
 use Rattle.mt_click.specs.declared.moment.Side.{Side}
@@ -67,7 +67,7 @@ module _ (s : Sight) where
   reaching_plain ports None n at = tt
   reaching_plain ports (Some x) n at = by (is_in n (ports x.0))
     where
-      by : (b : Bool) → ArePlain (cond b [] (moments.Port (wrong whys.NoPort at) ∷ []))
+      by : (b : Bool) → ArePlain (cond b [] (moments.PortNumber (wrong whys.NoPort at) ∷ []))
       by true = tt
       by false = (tt, tt)
 
@@ -84,13 +84,13 @@ module _ (s : Sight) where
       by true = reaching_plain ports found 0 at
       by false = tt
 
-  leaving_plain : (found : Found) (before behind : Bool) (e : EndTree) → ArePlain (leaving_out_of s found before behind e)
+  leaving_plain : (found : Found) (before behind : Bool) (e : EndpointTree) → ArePlain (leaving_out_of s found before behind e)
   unfolding leaving_out_of
   leaving_plain found before behind e =
       both (left_out_of (inputs_of s.text) found before e.input (first_of e.item)) (left_out_of (outputs_of s.text) found behind e.output (first_of e.item))
       (left_plain (inputs_of s.text) found before e.input (first_of e.item)) (left_plain (outputs_of s.text) found behind e.output (first_of e.item))
 
-  unnamed_plain : (found : Found) (before behind : Bool) (e : EndTree) (u : UseTree) → ArePlain (unnamed_of s found before behind e u)
+  unnamed_plain : (found : Found) (before behind : Bool) (e : EndpointTree) (u : UseTree) → ArePlain (unnamed_of s found before behind e u)
   unfolding unnamed_of
   unnamed_plain found before behind e u =
       let left = leaving_out_of s found before behind e in
@@ -98,7 +98,7 @@ module _ (s : Sight) where
       both (using_of s u.class) (counting_of s u ++ (left ++ last)) (using_plain u.class)
       (both (counting_of s u) (left ++ last) (counting_plain u) (both left last (leaving_plain found before behind e) (making_plain None u)))
 
-  named_plain : (earlier : List Declaration) (found : Found) (before behind : Bool) (e : EndTree) (t : Token) (u : UseTree) → ArePlain (named_of s earlier found before behind e t u)
+  named_plain : (earlier : List Declaration) (found : Found) (before behind : Bool) (e : EndpointTree) (t : Token) (u : UseTree) → ArePlain (named_of s earlier found before behind e t u)
   unfolding named_of
   named_plain earlier found before behind e t u =
       let left = leaving_out_of s found before behind e in
@@ -107,7 +107,7 @@ module _ (s : Sight) where
       (both left (using_of s u.class ++ last) (leaving_plain found before behind e)
       (both (using_of s u.class) last (using_plain u.class) (both (counting_of s u) (making_of s (Some (word t)) u) (counting_plain u) (making_plain (Some (word t)) u))))
 
-  item_plain : (earlier : List Declaration) (found : Found) (before behind : Bool) (e : EndTree) (i : ItemTree) → ArePlain (item_of_end s earlier found before behind e i)
+  item_plain : (earlier : List Declaration) (found : Found) (before behind : Bool) (e : EndpointTree) (i : ItemTree) → ArePlain (item_of_end s earlier found before behind e i)
   unfolding item_of_end
   item_plain earlier found before behind e (named t colons u) = named_plain earlier found before behind e t u
   item_plain earlier found before behind e (made t a) = unnamed_plain found before behind e (record { class = t; arguments = Some a })
@@ -117,7 +117,7 @@ module _ (s : Sight) where
       by true = unnamed_plain found before behind e (bare_use t)
       by false = leaving_plain found before behind e
 
-  end_plain : (earlier : List Declaration) (before behind : Bool) (e : EndTree) → ArePlain (moments_of_end s earlier before behind e)
+  end_plain : (earlier : List Declaration) (before behind : Bool) (e : EndpointTree) → ArePlain (moments_of_end s earlier before behind e)
   unfolding moments_of_end whole_of
   end_plain earlier before behind e =
       let found = item_class s e.item in
@@ -131,7 +131,7 @@ module _ (s : Sight) where
   joining_plain arrow (Some a) None = tt
   joining_plain arrow None b = tt
 
-  next_plain : (earlier : List Declaration) (e : EndTree) (more : List (Token × EndTree)) → ArePlain (moments_of_next s earlier e more)
+  next_plain : (earlier : List Declaration) (e : EndpointTree) (more : List (Token × EndpointTree)) → ArePlain (moments_of_next s earlier e more)
   unfolding moments_of_next
   next_plain earlier e [] = tt
   next_plain earlier e (next ∷ more) =

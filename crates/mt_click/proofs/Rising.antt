@@ -5,7 +5,7 @@ use Rattle.std.specs.Option.{option_map}
 use Rattle.std.proofs.lemmas.Bool.Decides.{nat_tests}
 use Rattle.std.proofs.lemmas.List.{append-nil}
 use Rattle.mt_syntax.specs.declared.token.Token.{Token}
-use Rattle.mt_syntax.specs.Grammar.{UseTree, print_use, print_port, ItemTree, named, alone, made, print_item, EndTree, print_end, print_ends, print_more, StatementTree, connect, declare, print_statement, InnerTree, sign, plain, print_body, print_parameters, ClassTree, print_class, OuterTree, outer, class, print_config}
+use Rattle.mt_syntax.specs.Grammar.{UseTree, print_use, print_port, ItemTree, named, alone, made, print_item, EndpointTree, print_endpoint, print_endpoints, print_more, StatementTree, connect, declare, print_statement, InnerTree, sign, plain, print_body, print_parameters, ClassTree, print_class, OuterTree, outer, class, print_config}
 use Rattle.mt_click.specs.Declarations.{spelling, Declaration, declared_item, declared_next, declared_more, declared_statement, declared_body, declared_outside, declared_under}
 use Rattle.mt_syntax.specs.Ascends.{Ascends}
 use Rattle.mt_click.proofs.Firsts.{bytes_self, before_entry}
@@ -63,17 +63,17 @@ item_among classes (alone t) = tt
 item_among classes (made t a) = tt
 item_among classes (named t c u) = inl (refl, tt)
 
-end_among : (classes : List ClassTree) (e : EndTree) → Among (declared_item classes e.item) (print_end e)
+end_among : (classes : List ClassTree) (e : EndpointTree) → Among (declared_item classes e.item) (print_endpoint e)
 end_among classes e =
     among_behind (declared_item classes e.item) (print_port e.input) (print_item e.item ++ print_port e.output)
     (among_front (declared_item classes e.item) (print_item e.item) (print_port e.output) (item_among classes e.item))
 
-ends_among : (classes : List ClassTree) (e : EndTree) (more : List (Token × EndTree)) → Among (declared_item classes e.item ++ declared_next classes more) (print_ends e more)
+ends_among : (classes : List ClassTree) (e : EndpointTree) (more : List (Token × EndpointTree)) → Among (declared_item classes e.item ++ declared_next classes more) (print_endpoints e more)
 unfolding declared_next
-ends_among classes e [] = subst (λ ds. Among ds (print_end e)) (sym (append-nil (declared_item classes e.item))) (end_among classes e)
+ends_among classes e [] = subst (λ ds. Among ds (print_endpoint e)) (sym (append-nil (declared_item classes e.item))) (end_among classes e)
 ends_among classes e (next ∷ more) =
-    among_both (declared_item classes e.item) (declared_next classes (next ∷ more)) (print_end e) (next.0 ∷ print_ends next.1 more) (end_among classes e)
-    (among_behind (declared_next classes (next ∷ more)) (next.0 ∷ []) (print_ends next.1 more) (ends_among classes next.1 more))
+    among_both (declared_item classes e.item) (declared_next classes (next ∷ more)) (print_endpoint e) (next.0 ∷ print_endpoints next.1 more) (end_among classes e)
+    (among_behind (declared_next classes (next ∷ more)) (next.0 ∷ []) (print_endpoints next.1 more) (ends_among classes next.1 more))
 
 more_among : (classes : List ClassTree) (u : UseTree) (more : List (Token × Token)) → Among (declared_more classes u more) (print_more more)
 unfolding declared_more

@@ -1,4 +1,4 @@
--- What a scope of the walk over parts sees is what a place of the trees sees.
+-- What a scope of the walk over phrases sees is what a place of the trees sees.
 use Rattle.std.proofs.Common.{◌≡◌, ℕ, List, [], ◌∷◌, ◌++◌, length, map, cond, slice_get, codes, Bool, true, false, ◌&&◌, ◌||◌, Option, Some, None, is_some, refl, sym, ap, ◌∙◌, subst}
 use Rattle.std.specs.Str.{bytes_eq}
 use Rattle.std.specs.Option.{option_map}
@@ -7,7 +7,7 @@ use Rattle.std.proofs.lemmas.List.{append_assoc}
 use Rattle.mt_syntax.specs.declared.token.Token.{Token}
 use Rattle.mt_syntax.specs.Reading.{word}
 use Rattle.mt_syntax.specs.Words.{bytes_of}
-use Rattle.mt_syntax.specs.Grammar.{UseTree, ItemTree, named, alone, made, EndTree, StatementTree, connect, declare, InnerTree, sign, plain, ClassTree, OuterTree, outer, class}
+use Rattle.mt_syntax.specs.Grammar.{UseTree, ItemTree, named, alone, made, EndpointTree, StatementTree, connect, declare, InnerTree, sign, plain, ClassTree, OuterTree, outer, class}
 use Rattle.mt_click.specs.declared.scope.Scope.{Scope}
 use Rattle.mt_click.specs.declared.table.Entry.{Entry}
 use Rattle.mt_click.specs.Scopes.{scope_number}
@@ -29,7 +29,7 @@ pub record Sees (names : Names) (s : Scope) (v : Sight) : Type 0 where
   pub border : (t : Token) → is_pseudo s (bytes_of names.text (word t)) ≡ is_border v t
   pub own : (t : Token) → is_own names s (word t) ≡ is_own_name v.text (spelling v.text t) v.own
   pub meant : (t : Token) → class_named names s (word t) ≡ number (class_meant v t)
-  pub placed : (t : Token) → Stands names.names (declared_place names s (bytes_of names.text (word t))) (option_map (entry_of v.text (scope_number s)) (name_meant v t))
+  pub located : (t : Token) → Stands names.names (declared_place names s (bytes_of names.text (word t))) (option_map (entry_of v.text (scope_number s)) (name_meant v t))
   pub before : (earlier : List Declaration) (d : Declaration) (rest : List Declaration) → v.declared ≡ earlier ++ d ∷ rest
       → is_redeclared names s (word d.name) ≡ (is_border v d.name || is_some (declared_under v.text earlier (spelling v.text d.name)))
   pub reached : (i : ItemTree) → Reached names.text names.ports (item_class v i)
@@ -48,7 +48,7 @@ all_item P classes h (alone t) = tt
 all_item P classes h (made t a) = tt
 all_item P classes h (named t c u) = (h, tt)
 
-all_next : (P : List ClassTree → Type 0) (classes : List ClassTree) → P classes → (more : List (Token × EndTree)) → AllOf P (declared_next classes more)
+all_next : (P : List ClassTree → Type 0) (classes : List ClassTree) → P classes → (more : List (Token × EndpointTree)) → AllOf P (declared_next classes more)
 unfolding declared_next
 all_next P classes h [] = tt
 all_next P classes h (next ∷ more) = all_both P (declared_item classes next.1.item) (declared_next classes more) (all_item P classes h next.1.item) (all_next P classes h more)
@@ -123,11 +123,11 @@ sees text cl ns po s ds classes own knows found up ported all inside mine = reco
   border = λ t. border (spelling text t);
   own = mine;
   meant = λ t. knows (spelling text t);
-  placed = λ t. placed (spelling text t);
+  located = λ t. located (spelling text t);
   before = λ earlier d rest e.
       ap (λ b. b || is_before_here d) (border (spelling text d.name))
       ∙ ap (λ b. (is_some own && (bytes_eq (spelling text d.name) (codes "input") || bytes_eq (spelling text d.name) (codes "output"))) || b)
-      (before_stands ns d.name.from _ _ (placed (spelling text d.name))
+      (before_stands ns d.name.from _ _ (located (spelling text d.name))
       ∙ ap (λ xs. before_entry d.name.from (option_map (entry_of text (scope_number s)) (declared_under text xs (spelling text d.name)))) e
       ∙ first_before text (scope_number s) 0 earlier d rest (subst (Rises 0) e up));
   reached = λ i. item_reached text po ds classes own ported all i;
@@ -136,8 +136,8 @@ sees text cl ns po s ds classes own knows found up ported all inside mine = reco
     border : (name : List ℕ) → (s.inside && (bytes_eq name (codes "input") || bytes_eq name (codes "output"))) ≡ (is_some own && (bytes_eq name (codes "input") || bytes_eq name (codes "output")))
     border name = ap (λ b. b && (bytes_eq name (codes "input") || bytes_eq name (codes "output"))) inside
 
-    placed : (name : List ℕ) → Stands ns (first_entry text ns (scope_number s) 0 name) (option_map (entry_of text (scope_number s)) (declared_under text ds name))
-    placed name = subst (Stands ns (first_entry text ns (scope_number s) 0 name)) (found name) (stands_first (is_entry text (scope_number s) 0 name) ns)
+    located : (name : List ℕ) → Stands ns (first_entry text ns (scope_number s) 0 name) (option_map (entry_of text (scope_number s)) (declared_under text ds name))
+    located name = subst (Stands ns (first_entry text ns (scope_number s) 0 name)) (found name) (stands_first (is_entry text (scope_number s) 0 name) ns)
 
     is_before_here : Declaration → Bool
     is_before_here d = is_before ns d.name.from (first_entry text ns (scope_number s) 0 (spelling text d.name))

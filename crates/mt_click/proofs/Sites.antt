@@ -5,12 +5,12 @@ use Rattle.std.specs.List.{AllPairs}
 use Rattle.std.proofs.lemmas.List.{append-nil}
 use Rattle.std.proofs.lemmas.List.Elements.{Contains-append_left, Contains-append_right, Contains-append_cases}
 use Rattle.mt_syntax.specs.declared.token.Token.{Token}
-use Rattle.mt_syntax.specs.declared.part.Word.{Word}
-use Rattle.mt_syntax.specs.declared.part.Use.{Use}
+use Rattle.mt_syntax.specs.declared.word.Word.{Word}
+use Rattle.mt_syntax.specs.declared.phrase.Use.{Use}
 use Rattle.mt_click.specs.declared.moment.Side.{Side}
 use Rattle.mt_syntax.specs.Ascends.{Ascends}
 use Rattle.mt_syntax.specs.Reading.{word}
-use Rattle.mt_syntax.specs.Grammar.{UseTree, use_of, print_use, PortTree, print_port, ItemTree, alone, named, made, print_item, EndTree, print_end, print_ends, print_more, StatementTree, connect, declare, print_statement, InnerTree, sign, plain, print_body, ClassTree, print_class, OuterTree, outer, class, print_config}
+use Rattle.mt_syntax.specs.Grammar.{UseTree, use_of, print_use, PortTree, print_port, ItemTree, alone, named, made, print_item, EndpointTree, print_endpoint, print_endpoints, print_more, StatementTree, connect, declare, print_statement, InnerTree, sign, plain, print_body, ClassTree, print_class, OuterTree, outer, class, print_config}
 use Rattle.mt_click.specs.Declarations.{Declaration, declaration, declared_item, declared_next, declared_more, declared_statement, declared_body, declared_outside}
 use Rattle.mt_click.specs.Acts.{Sight, is_border, class_meant, name_meant, Act, element, expand, making_act, make, bare_use, lone, item_acts, item_class, coming, leaving, end_acts, side_left, side_reached, joining, has_next, next_acts, group_acts, statement_acts, body_acts, outside_acts}
 use Rattle.mt_click.specs.Elements.{own_place}
@@ -162,31 +162,31 @@ joining_sited arrow (Some a) (Some b) ts = record { at = tt; named = λ d c. non
 joining_sited arrow (Some a) None ts = nothing ts
 joining_sited arrow None b ts = nothing ts
 
-end_sited : (s : Sight) (classes : List ClassTree) (next joined : Bool) (e : EndTree) → Sited (end_acts s next joined e) (declared_item classes e.item) (print_end e)
+end_sited : (s : Sight) (classes : List ClassTree) (next joined : Bool) (e : EndpointTree) → Sited (end_acts s next joined e) (declared_item classes e.item) (print_endpoint e)
 unfolding end_acts
 end_sited s classes next joined e =
     let first = coming next (item_class s e.item) e.input in
     let last = leaving joined (item_class s e.item) e.output in
-    subst (λ ds. Sited (first ++ (item_acts s e.item ++ last)) ds (print_end e)) (append-nil (declared_item classes e.item))
+    subst (λ ds. Sited (first ++ (item_acts s e.item ++ last)) ds (print_endpoint e)) (append-nil (declared_item classes e.item))
     (both first (item_acts s e.item ++ last) [] (declared_item classes e.item ++ []) (print_port e.input) (print_item e.item ++ print_port e.output) (coming_sited next (item_class s e.item) e.input (print_port e.input))
     (both (item_acts s e.item) last (declared_item classes e.item) [] (print_item e.item) (print_port e.output) (item_sited s classes e.item) (leaving_sited joined (item_class s e.item) e.output (print_port e.output))))
 
 -- the tokens of the ends behind the first
-abbrev print_next : List (Token × EndTree) → List Token
+abbrev print_next : List (Token × EndpointTree) → List Token
 print_next [] = []
-print_next (next ∷ more) = next.0 ∷ (print_end next.1 ++ print_next more)
+print_next (next ∷ more) = next.0 ∷ (print_endpoint next.1 ++ print_next more)
 
-ends_printed : (e : EndTree) (more : List (Token × EndTree)) → print_ends e more ≡ print_end e ++ print_next more
-ends_printed e [] = sym (append-nil (print_end e))
-ends_printed e (next ∷ more) = ap (λ (ts : List Token). print_end e ++ (next.0 ∷ ts)) (ends_printed next.1 more)
+endpoints_printed : (e : EndpointTree) (more : List (Token × EndpointTree)) → print_endpoints e more ≡ print_endpoint e ++ print_next more
+endpoints_printed e [] = sym (append-nil (print_endpoint e))
+endpoints_printed e (next ∷ more) = ap (λ (ts : List Token). print_endpoint e ++ (next.0 ∷ ts)) (endpoints_printed next.1 more)
 
-next_sited : (s : Sight) (classes : List ClassTree) (e : EndTree) (more : List (Token × EndTree)) → Sited (next_acts s e more) (declared_next classes more) (print_next more)
+next_sited : (s : Sight) (classes : List ClassTree) (e : EndpointTree) (more : List (Token × EndpointTree)) → Sited (next_acts s e more) (declared_next classes more) (print_next more)
 unfolding next_acts declared_next
 next_sited s classes e [] = nothing []
 next_sited s classes e (next ∷ more) =
     let joined = joining next.0.from (side_left s e) (side_reached s next.1) in
-    both (end_acts s true (has_next more) next.1) (joined ++ next_acts s next.1 more) (declared_item classes next.1.item) (declared_next classes more) (next.0 ∷ print_end next.1) (print_next more)
-    (behind (end_acts s true (has_next more) next.1) (declared_item classes next.1.item) (next.0 ∷ []) (print_end next.1) (end_sited s classes true (has_next more) next.1))
+    both (end_acts s true (has_next more) next.1) (joined ++ next_acts s next.1 more) (declared_item classes next.1.item) (declared_next classes more) (next.0 ∷ print_endpoint next.1) (print_next more)
+    (behind (end_acts s true (has_next more) next.1) (declared_item classes next.1.item) (next.0 ∷ []) (print_endpoint next.1) (end_sited s classes true (has_next more) next.1))
     (both joined (next_acts s next.1 more) [] (declared_next classes more) [] (print_next more) (joining_sited next.0.from (side_left s e) (side_reached s next.1) []) (next_sited s classes next.1 more))
 
 group_sited : (s : Sight) (classes : List ClassTree) (u : UseTree) (more : List (Token × Token)) → Sited (group_acts s u more) (declared_more classes u more) (print_more more)
@@ -199,8 +199,8 @@ group_sited s classes u (next ∷ more) =
 statement_sited : (s : Sight) (classes : List ClassTree) (st : StatementTree) → Sited (statement_acts s st) (declared_statement classes st) (print_statement st)
 unfolding statement_acts declared_statement
 statement_sited s classes (connect e more) =
-    subst (Sited (end_acts s false (has_next more) e ++ next_acts s e more) (declared_item classes e.item ++ declared_next classes more)) (sym (ends_printed e more))
-    (both (end_acts s false (has_next more) e) (next_acts s e more) (declared_item classes e.item) (declared_next classes more) (print_end e) (print_next more) (end_sited s classes false (has_next more) e) (next_sited s classes e more))
+    subst (Sited (end_acts s false (has_next more) e ++ next_acts s e more) (declared_item classes e.item ++ declared_next classes more)) (sym (endpoints_printed e more))
+    (both (end_acts s false (has_next more) e) (next_acts s e more) (declared_item classes e.item) (declared_next classes more) (print_endpoint e) (print_next more) (end_sited s classes false (has_next more) e) (next_sited s classes e more))
 statement_sited s classes (declare first next more colons last) =
     both (make s (Some (word first)) last ∷ []) (group_acts s last (next ∷ more)) (declaration classes last first ∷ []) (declared_more classes last (next ∷ more)) (first ∷ []) (print_more (next ∷ more) ++ (colons ∷ print_use last))
     (named_sited s classes first last [])

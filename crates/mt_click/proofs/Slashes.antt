@@ -5,7 +5,7 @@ use Rattle.std.specs.Str.Parse.{AllDigits}
 use Rattle.std.proofs.lemmas.List.{append-nil}
 use Rattle.std.proofs.lemmas.Fmt.{decimal_is_IsNumeral}
 use Rattle.std.proofs.lemmas.Str.Parse.{digit_from_value}
-use Rattle.mt_syntax.specs.Byte.{is_letter, is_name_byte}
+use Rattle.mt_text.specs.Byte.{is_letter, is_name_byte}
 use Rattle.mt_click.specs.Elements.{scope_text}
 use Rattle.mt_click.specs.Sound.{IsOwn}
 use Rattle.mt_syntax.specs.Spelled.{IsIdentifier}

@@ -3,11 +3,11 @@ use Rattle.std.proofs.Common.{◌≡◌, ℕ, ◌<◌, ◌≤◌, List, [], ◌�
 use Rattle.std.specs.List.{AllByRecursion}
 use Rattle.std.specs.Str.{bytes_eq}
 use Rattle.std.proofs.lemmas.List.{append_assoc, length-append}
-use Rattle.mt_syntax.specs.declared.part.Word.{Word}
+use Rattle.mt_syntax.specs.declared.word.Word.{Word}
 use Rattle.mt_syntax.specs.declared.token.Token.{Token}
 use Rattle.mt_click.specs.declared.moment.Side.{Side}
 use Rattle.mt_syntax.specs.Reading.{word}
-use Rattle.mt_syntax.specs.Grammar.{UseTree, use_of, PortTree, ItemTree, alone, named, made, EndTree, StatementTree, connect, declare, InnerTree, sign, plain, ClassTree, OuterTree, outer, class}
+use Rattle.mt_syntax.specs.Grammar.{UseTree, use_of, PortTree, ItemTree, alone, named, made, EndpointTree, StatementTree, connect, declare, InnerTree, sign, plain, ClassTree, OuterTree, outer, class}
 use Rattle.mt_click.specs.Declarations.{spelling, class_from, class_under, Declaration, classes_of}
 use Rattle.mt_click.specs.Acts.{Sight, is_border, class_meant, name_meant, bare_use, Act, element, expand, input, output, join, make, making_act, lone, item_acts, item_class, coming, leaving, end_acts, side_left, side_reached, joining, has_next, next_acts, group_acts, statement_acts, body_acts, outside_acts}
 use Rattle.mt_click.specs.Spread.{Found}
@@ -101,14 +101,14 @@ module _ (all : List ClassTree) (most : ℕ) (s : Sight) (front : IsFront all s.
   joining_are arrow (Some a) None = tt
   joining_are arrow None b = tt
 
-  end_are : (before behind : Bool) (e : EndTree) → AreActs all most (end_acts s before behind e)
+  end_are : (before behind : Bool) (e : EndpointTree) → AreActs all most (end_acts s before behind e)
   unfolding end_acts
   end_are before behind e =
       let found = item_class s e.item in
       all_append (IsAct all most) (coming before found e.input) (item_acts s e.item ++ leaving behind found e.output) (coming_are before found e.input)
       (all_append (IsAct all most) (item_acts s e.item) (leaving behind found e.output) (item_are e.item) (leaving_are behind found e.output))
 
-  next_are : (e : EndTree) (more : List (Token × EndTree)) → AreActs all most (next_acts s e more)
+  next_are : (e : EndpointTree) (more : List (Token × EndpointTree)) → AreActs all most (next_acts s e more)
   unfolding next_acts
   next_are e [] = tt
   next_are e (next ∷ more) =

@@ -3,8 +3,8 @@ use Rattle.std.proofs.Common.{◌≡◌, ℕ, ◌+◌, List, length, nat_le, nat
 use Rattle.std.specs.Prelude.{◌==◌, not, is_some}
 use Rattle.mt_syntax.specs.declared.fault.ClickWhy.TheVariants as whys
 use Rattle.mt_syntax.specs.declared.fault.Fault.{Fault}
-use Rattle.mt_syntax.specs.declared.part.Word.{Word}
-use Rattle.mt_syntax.specs.declared.part.Use.{Use}
+use Rattle.mt_syntax.specs.declared.word.Word.{Word}
+use Rattle.mt_syntax.specs.declared.phrase.Use.{Use}
 use Rattle.mt_syntax.specs.declared.replacing.Binding.{Binding}
 use Rattle.mt_syntax.specs.Arguments.{shown}
 use Rattle.mt_syntax.specs.Replacing.{unknown_in}
@@ -69,7 +69,7 @@ module _ (text : List ℕ) (bodies : List (List Moment)) (enter : Inner) (p : Pl
   unfolding tries moved
   tries_parameter w = refl
 
-  pub tries_port : (f : Fault) → tries text bodies enter p (moments.Port f) s ≡ None
+  pub tries_port : (f : Fault) → tries text bodies enter p (moments.PortNumber f) s ≡ None
   unfolding tries moved
   tries_port f = refl
 

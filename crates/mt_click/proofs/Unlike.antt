@@ -4,11 +4,11 @@ use Rattle.std.specs.List.{AllByRecursion}
 use Rattle.std.proofs.lemmas.List.{append-nil, append_cancel_left}
 use Rattle.std.proofs.lemmas.List.Elements.{Contains-append_cases}
 use Rattle.std.proofs.lemmas.Fmt.{decimal_injective}
-use Rattle.mt_syntax.specs.declared.part.Word.{Word}
-use Rattle.mt_syntax.specs.declared.part.Use.{Use}
+use Rattle.mt_syntax.specs.declared.word.Word.{Word}
+use Rattle.mt_syntax.specs.declared.phrase.Use.{Use}
 use Rattle.mt_syntax.specs.Grammar.{ClassTree, OuterTree, IsConfig}
 use Rattle.mt_syntax.specs.Words.{bytes_of}
-use Rattle.mt_click.specs.declared.element.Element.{Element}
+use Rattle.mt_graph.specs.declared.Element.{Element}
 use Rattle.mt_click.specs.Declarations.{spelling, Declaration, declared_body, declared_outside, classes_of}
 use Rattle.mt_click.specs.Acts.{body_sight, Act, body_acts, outside_acts}
 use Rattle.mt_click.specs.Elements.{Place, State, element_of, scope_text, own_place, empty, top, with_element, with_use, with_join}

@@ -71,7 +71,7 @@ walk_on text all inner p moments.Close ms es h = absurd (let x : true ≡ false 
 walk_on text all inner p moments.Class ms es h = refl
 walk_on text all inner p (moments.Parameter w) ms es h = refl
 walk_on text all inner p (moments.Name f) ms es h = refl
-walk_on text all inner p (moments.Port f) ms es h = refl
+walk_on text all inner p (moments.PortNumber f) ms es h = refl
 walk_on text all inner p (moments.Count k u) ms es h = refl
 walk_on text all inner p (moments.Room n u) ms es h = refl
 walk_on text all inner p (moments.Element name u) ms es h = refl
@@ -87,7 +87,7 @@ walk_end text all inner p (moments.Close ∷ ms) es h = refl
 walk_end text all inner p (moments.Class ∷ ms) es h = absurd (let x : false ≡ true = h in cc)
 walk_end text all inner p (moments.Parameter w ∷ ms) es h = absurd (let x : false ≡ true = h in cc)
 walk_end text all inner p (moments.Name f ∷ ms) es h = absurd (let x : false ≡ true = h in cc)
-walk_end text all inner p (moments.Port f ∷ ms) es h = absurd (let x : false ≡ true = h in cc)
+walk_end text all inner p (moments.PortNumber f ∷ ms) es h = absurd (let x : false ≡ true = h in cc)
 walk_end text all inner p (moments.Count k u ∷ ms) es h = absurd (let x : false ≡ true = h in cc)
 walk_end text all inner p (moments.Room n u ∷ ms) es h = absurd (let x : false ≡ true = h in cc)
 walk_end text all inner p (moments.Element name u ∷ ms) es h = absurd (let x : false ≡ true = h in cc)
@@ -233,7 +233,7 @@ use_cost_of s known p moments.Class es ys e h = ap (use_cost s known) (sym (ap u
 use_cost_of s known p (moments.Parameter w) es ys e h = ap (use_cost s known) (sym (ap use_of h))
 use_cost_of s known p moments.Close es ys e h = ap (use_cost s known) (sym (ap use_of h))
 use_cost_of s known p (moments.Name f) es ys e h = ap (use_cost s known) (sym (ap use_of h))
-use_cost_of s known p (moments.Port f) es ys e h = absurd (let q : false ≡ true = ap is_fine h in cc)
+use_cost_of s known p (moments.PortNumber f) es ys e h = absurd (let q : false ≡ true = ap is_fine h in cc)
 use_cost_of s known p (moments.Count k u) es ys e h = ap (use_cost s known) (kept (counted s.text.now (bodies s) p.bindings k u) es ys None e h)
 use_cost_of s known p (moments.Room n u) es ys e h =
     ap (use_cost s known) (room_none (nat_le (length es.elements + n) 512) es ys (wrong whys.TooManyElements u.class.from) e h)
@@ -251,7 +251,7 @@ cost_on s known (moments.Enter k u place) ms h = omega arith
 cost_on s known moments.Class ms h = omega arith
 cost_on s known (moments.Parameter w) ms h = omega arith
 cost_on s known (moments.Name f) ms h = omega arith
-cost_on s known (moments.Port f) ms h = omega arith
+cost_on s known (moments.PortNumber f) ms h = omega arith
 cost_on s known (moments.Count k u) ms h = omega arith
 cost_on s known (moments.Room n u) ms h = omega arith
 cost_on s known (moments.Element name u) ms h = omega arith
@@ -265,7 +265,7 @@ cost_some inner (moments.Enter k u place ∷ ms) = omega arith
 cost_some inner (moments.Class ∷ ms) = omega arith
 cost_some inner (moments.Parameter w ∷ ms) = omega arith
 cost_some inner (moments.Name f ∷ ms) = omega arith
-cost_some inner (moments.Port f ∷ ms) = omega arith
+cost_some inner (moments.PortNumber f ∷ ms) = omega arith
 cost_some inner (moments.Count k u ∷ ms) = omega arith
 cost_some inner (moments.Room n u ∷ ms) = omega arith
 cost_some inner (moments.Element name u ∷ ms) = omega arith
@@ -301,7 +301,7 @@ bound_none text (moments.Parameter w ∷ ms) [] h = refl
 bound_none text (moments.Close ∷ ms) [] h = refl
 bound_none text (moments.Class ∷ ms) [] h = refl
 bound_none text (moments.Name f ∷ ms) [] h = refl
-bound_none text (moments.Port f ∷ ms) [] h = refl
+bound_none text (moments.PortNumber f ∷ ms) [] h = refl
 bound_none text (moments.Count k u ∷ ms) [] h = refl
 bound_none text (moments.Room n u ∷ ms) [] h = refl
 bound_none text (moments.Element name u ∷ ms) [] h = refl

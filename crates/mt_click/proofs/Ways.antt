@@ -4,7 +4,7 @@ use Rattle.std.specs.List.{Contains}
 use Rattle.std.proofs.lemmas.Option.{slice_get_within}
 use Rattle.std.proofs.lemmas.List.Elements.{Contains-append_left, Contains-append_right, Contains-append_cases}
 use Rattle.std.proofs.lemmas.Bool.{cases_lt}
-use Rattle.mt_ways.specs.Ways.{targets_of, Reaches}
+use Rattle.mt_reach.specs.Reach.{targets_of, Reaches}
 use Rattle.mt_click.specs.declared.link.Node.{Node}
 use Rattle.mt_click.specs.declared.link.Node.TheVariants as nodes
 use Rattle.mt_click.specs.declared.link.Link.{Link}

@@ -12,8 +12,8 @@ use Rattle.mt_click.specs.declared.link.Node.{Node}
 use Rattle.mt_click.specs.declared.link.Node.TheVariants as nodes
 use Rattle.mt_click.specs.declared.link.Link.{Link}
 use Rattle.mt_click.specs.declared.link.Way.{Way}
-use Rattle.mt_click.specs.declared.graph.Wire.{Wire}
-use Rattle.mt_click.specs.declared.graph.Graph.{Graph}
+use Rattle.mt_graph.specs.declared.Wire.{Wire}
+use Rattle.mt_graph.specs.declared.Graph.{Graph}
 use Rattle.mt_click.specs.Links.{is_made, thing_from, thing_at, left_at, reached_at, source_of, target_of, linking, link_of, links_from, links_in}
 use Rattle.mt_click.specs.Wires.{Leads, stays, follows, IsWay, wire_of}
 use Rattle.mt_click.specs.Sound.{AreWithin}

@@ -2,12 +2,12 @@
 use Rattle.std.specs.Prelude.{ℕ, List, [], ◌∷◌, ◌++◌, codes, Option, Some, None, is_some, Bool, true, false, ◌&&◌, ◌||◌, if◌then◌else◌}
 use Rattle.std.specs.Str.{bytes_eq}
 use Rattle.mt_syntax.specs.declared.token.Token.{Token}
-use Rattle.mt_syntax.specs.declared.part.Word.{Word}
-use Rattle.mt_syntax.specs.declared.part.Use.{Use}
+use Rattle.mt_syntax.specs.declared.word.Word.{Word}
+use Rattle.mt_syntax.specs.declared.phrase.Use.{Use}
 use Rattle.mt_click.specs.declared.moment.Side.{Side}
 use Rattle.mt_click.specs.declared.moment.Side.TheVariants as sides
 use Rattle.mt_syntax.specs.Reading.{word}
-use Rattle.mt_syntax.specs.Grammar.{UseTree, use_of, PortTree, ItemTree, alone, named, made, EndTree, StatementTree, connect, declare, InnerTree, sign, plain, ClassTree, OuterTree, outer, class}
+use Rattle.mt_syntax.specs.Grammar.{UseTree, use_of, PortTree, ItemTree, alone, named, made, EndpointTree, StatementTree, connect, declare, InnerTree, sign, plain, ClassTree, OuterTree, outer, class}
 use Rattle.mt_click.specs.Declarations.{spelling, class_under, Declaration, declared_under, declared_body, port_value}
 
 -- What a place of the text sees: all that its scope declares, the classes that stand before, and the class
@@ -96,7 +96,7 @@ leaving true (Some x) port = output x.0 (port_value port) ∷ []
 leaving _ _ port = []
 
 -- an end, with a `->` before it or none, and with one behind it or none
-unfoldable pub end_acts : Sight → Bool → Bool → EndTree → List Act
+unfoldable pub end_acts : Sight → Bool → Bool → EndpointTree → List Act
 end_acts s before behind e = coming before (item_class s e.item) e.input ++ (item_acts s e.item ++ leaving behind (item_class s e.item) e.output)
 
 -- What an end stands for, with a port: what is made at the place of the name's declaration, or at the
@@ -113,22 +113,22 @@ side s border port (alone t) =
     if is_border s t then (if bytes_eq (spelling s.text t) border then Some (sides.Border port) else None)
     else lone_side t port (name_meant s t)
 
-abbrev pub side_left : Sight → EndTree → Option Side
+abbrev pub side_left : Sight → EndpointTree → Option Side
 side_left s e = side s (codes "input") (port_value e.output) e.item
 
-abbrev pub side_reached : Sight → EndTree → Option Side
+abbrev pub side_reached : Sight → EndpointTree → Option Side
 side_reached s e = side s (codes "output") (port_value e.input) e.item
 
 abbrev pub joining : ℕ → Option Side → Option Side → List Act
 joining arrow (Some a) (Some b) = join arrow a b ∷ []
 joining arrow _ _ = []
 
-abbrev pub has_next : List (Token × EndTree) → Bool
+abbrev pub has_next : List (Token × EndpointTree) → Bool
 has_next [] = false
 has_next (next ∷ more) = true
 
 -- the further ends of a connection, behind one
-unfoldable pub next_acts : Sight → EndTree → List (Token × EndTree) → List Act
+unfoldable pub next_acts : Sight → EndpointTree → List (Token × EndpointTree) → List Act
 next_acts s e [] = []
 next_acts s e (next ∷ more) = end_acts s true (has_next more) next.1 ++ (joining next.0.from (side_left s e) (side_reached s next.1) ++ next_acts s next.1 more)
 

@@ -4,9 +4,9 @@ use Rattle.mt_syntax.specs.declared.fault.Fault.{Fault}
 use Rattle.mt_syntax.specs.declared.fault.ClickFault.{ClickFault}
 use Rattle.mt_syntax.specs.declared.fault.ReadError.{ReadError}
 use Rattle.mt_syntax.specs.declared.fault.ReadError.TheVariants as errors
-use Rattle.mt_syntax.specs.Place.{no_memory, placed}
-use Rattle.mt_syntax.specs.Reading.{◌>>=◌, parts_in}
-use Rattle.mt_click.specs.declared.graph.Graph.{Graph}
+use Rattle.mt_syntax.specs.Position.{no_memory, located}
+use Rattle.mt_syntax.specs.Reading.{◌>>=◌, phrases_in}
+use Rattle.mt_graph.specs.declared.Graph.{Graph}
 use Rattle.mt_click.specs.Elements.{State}
 use Rattle.mt_click.specs.Links.{links_in}
 use Rattle.mt_click.specs.Moments.{moments_in}
@@ -15,7 +15,7 @@ use Rattle.mt_click.specs.Wires.{AreWires}
 
 -- Faults of reading come first, and then the first that the walk meets.
 abbrev pub built_in : List ℕ → Walked
-built_in text = parts_in text >>= λ ps. walked text (moments_in text ps)
+built_in text = phrases_in text >>= λ ps. walked text (moments_in text ps)
 
 -- The walk over the text comes to its end; its elements are the graph's, and the wires of its connections.
 pub record IsWalked (text : List ℕ) (g : Graph) : Type 0 where
@@ -33,4 +33,4 @@ Walks text (Err (errors.Fault f)) = built_in text ≡ Err f
 -- the same with line and column
 abbrev pub Finds : List ℕ → Result Graph ClickFault → Type 0
 Finds text (Ok g) = IsWalked text g
-Finds text (Err e) = (e ≡ no_memory) ⊎ ((f : Fault) × (built_in text ≡ Err f) × (e ≡ placed text f))
+Finds text (Err e) = (e ≡ no_memory) ⊎ ((f : Fault) × (built_in text ≡ Err f) × (e ≡ located text f))

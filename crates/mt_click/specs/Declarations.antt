@@ -4,7 +4,7 @@ use Rattle.std.specs.Str.{bytes_eq}
 use Rattle.mt_syntax.specs.declared.token.Token.{Token}
 use Rattle.mt_syntax.specs.Reading.{word}
 use Rattle.mt_syntax.specs.Words.{bytes_of}
-use Rattle.mt_syntax.specs.Grammar.{UseTree, PortTree, ItemTree, named, alone, EndTree, StatementTree, connect, declare, InnerTree, sign, plain, ParameterTree, ClassTree, OuterTree, outer, class}
+use Rattle.mt_syntax.specs.Grammar.{UseTree, PortTree, ItemTree, named, alone, EndpointTree, StatementTree, connect, declare, InnerTree, sign, plain, ParameterTree, ClassTree, OuterTree, outer, class}
 
 -- the bytes of a token
 abbrev pub spelling : List ℕ → Token → List ℕ
@@ -32,7 +32,7 @@ unfoldable pub declared_item : List ClassTree → ItemTree → List Declaration
 declared_item classes (named t colons u) = declaration classes u t ∷ []
 declared_item classes _ = []
 
-unfoldable pub declared_next : List ClassTree → List (Token × EndTree) → List Declaration
+unfoldable pub declared_next : List ClassTree → List (Token × EndpointTree) → List Declaration
 declared_next classes [] = []
 declared_next classes (next ∷ more) = declared_item classes next.1.item ++ declared_next classes more
 
@@ -91,12 +91,12 @@ named_port text name port (alone t) = if bytes_eq (spelling text t) name then po
 named_port text name port _ = []
 
 -- The input ports that a body names: `input [k]` with a `->` behind it.
-unfoldable pub inputs_ends : List ℕ → EndTree → List (Token × EndTree) → List ℕ
+unfoldable pub inputs_ends : List ℕ → EndpointTree → List (Token × EndpointTree) → List ℕ
 inputs_ends text e [] = []
 inputs_ends text e (next ∷ more) = named_port text (codes "input") e.output e.item ++ inputs_ends text next.1 more
 
 -- The output ports that a body names: `[k] output` with a `->` before it.
-unfoldable pub outputs_ends : List ℕ → List (Token × EndTree) → List ℕ
+unfoldable pub outputs_ends : List ℕ → List (Token × EndpointTree) → List ℕ
 outputs_ends text [] = []
 outputs_ends text (next ∷ more) = named_port text (codes "output") next.1.input next.1.item ++ outputs_ends text more
 

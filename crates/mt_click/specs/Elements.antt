@@ -2,17 +2,17 @@
 use Rattle.std.specs.Prelude.{ℕ, ◌+◌, List, [], ◌∷◌, ◌++◌, length, Option, Some, None}
 use Rattle.std.specs.List.{flat_map}
 use Rattle.std.specs.Fmt.{decimal}
-use Rattle.mt_syntax.specs.declared.part.Word.{Word}
-use Rattle.mt_syntax.specs.declared.part.Use.{Use}
+use Rattle.mt_syntax.specs.declared.word.Word.{Word}
+use Rattle.mt_syntax.specs.declared.phrase.Use.{Use}
 use Rattle.mt_syntax.specs.declared.replacing.Binding.{Binding}
-use Rattle.mt_click.specs.declared.element.Element.{Element}
+use Rattle.mt_graph.specs.declared.Element.{Element}
 use Rattle.mt_click.specs.declared.built.Made.{Made}
 use Rattle.mt_click.specs.declared.built.Joined.{Joined}
 use Rattle.mt_click.specs.declared.built.Thing.TheVariants as things
 use Rattle.mt_click.specs.declared.moment.Side.{Side}
 use Rattle.mt_syntax.specs.Arguments.{shown, separated}
 use Rattle.mt_syntax.specs.Replacing.{replaced_in}
-use Rattle.mt_syntax.specs.Place.{line_of}
+use Rattle.mt_syntax.specs.Position.{line_of}
 use Rattle.mt_syntax.specs.Words.{bytes_of, inner}
 
 -- The arguments of a use in a body: each parameter is replaced by its argument, and what comes of it is

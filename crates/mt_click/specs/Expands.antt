@@ -2,14 +2,14 @@
 use Rattle.std.specs.Prelude.{◌≡◌, ℕ, ◌+◌, ◌<◌, List, [], ◌∷◌, ◌++◌, length, drop, Option, Some, None, IsTrue, Contains, if◌then◌else◌}
 use Rattle.std.specs.List.{AllByRecursion, AllPairs}
 use Rattle.mt_syntax.specs.declared.token.Token.{Token}
-use Rattle.mt_syntax.specs.declared.part.Word.{Word}
-use Rattle.mt_syntax.specs.declared.part.Use.{Use}
+use Rattle.mt_syntax.specs.declared.word.Word.{Word}
+use Rattle.mt_syntax.specs.declared.phrase.Use.{Use}
 use Rattle.mt_syntax.specs.declared.replacing.Binding.{Binding}
 use Rattle.mt_click.specs.declared.moment.Side.{Side}
 use Rattle.mt_syntax.specs.Arguments.{shown}
 use Rattle.mt_syntax.specs.Replacing.{unknown_in}
 use Rattle.mt_syntax.specs.Words.{inner}
-use Rattle.mt_syntax.specs.Grammar.{ItemTree, alone, named, made, EndTree, StatementTree, connect, declare, InnerTree, sign, plain, ClassTree, OuterTree}
+use Rattle.mt_syntax.specs.Grammar.{ItemTree, alone, named, made, EndpointTree, StatementTree, connect, declare, InnerTree, sign, plain, ClassTree, OuterTree}
 use Rattle.mt_click.specs.Declarations.{spelling, Declaration, declared_body, declared_outside, classes_of, parameters_of, inputs_of, outputs_of}
 use Rattle.mt_click.specs.Acts.{Sight, body_sight, is_border, name_meant, Act, element, expand, input, output, join, body_acts, outside_acts}
 use Rattle.mt_click.specs.Elements.{Place, State, arguments_in, own_place, empty, top, with_element, with_use, with_join}
@@ -35,7 +35,7 @@ item_uses s (named t colons u) = u.class ∷ []
 item_uses s (made t a) = t ∷ []
 item_uses s (alone t) = if is_border s t then [] else lone_use t (name_meant s t)
 
-unfoldable pub next_uses : Sight → List (Token × EndTree) → List Token
+unfoldable pub next_uses : Sight → List (Token × EndpointTree) → List Token
 next_uses s [] = []
 next_uses s (next ∷ more) = item_uses s next.1.item ++ next_uses s more
 

@@ -1,6 +1,6 @@
 -- The ways that a search finds.
 use Rattle.std.specs.Prelude.{◌≡◌, ℕ, ◌<◌, List, [], ◌∷◌, ◌++◌, slice_get, Option, Some}
-use Rattle.mt_ways.specs.Ways.{Reaches}
+use Rattle.mt_reach.specs.Reach.{Reaches}
 use Rattle.mt_click.specs.declared.link.Node.{Node}
 use Rattle.mt_click.specs.declared.link.Node.TheVariants as nodes
 use Rattle.mt_click.specs.declared.link.Link.{Link}

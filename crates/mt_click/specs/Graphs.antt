@@ -2,11 +2,11 @@
 use Rattle.std.specs.Prelude.{◌≡◌, ◌⊎◌, ℕ, List, Result, Ok, Err}
 use Rattle.mt_syntax.specs.declared.fault.Fault.{Fault}
 use Rattle.mt_syntax.specs.declared.fault.ClickFault.{ClickFault}
-use Rattle.mt_syntax.specs.Place.{no_memory, placed}
+use Rattle.mt_syntax.specs.Position.{no_memory, located}
 use Rattle.mt_syntax.specs.Grammar.{OuterTree}
 use Rattle.mt_syntax.specs.Derives.{Derives}
 use Rattle.mt_syntax.specs.Stopping.{TextStopsAt}
-use Rattle.mt_click.specs.declared.graph.Graph.{Graph}
+use Rattle.mt_graph.specs.declared.Graph.{Graph}
 use Rattle.mt_click.specs.Elements.{State}
 use Rattle.mt_click.specs.Expands.{Expands}
 use Rattle.mt_click.specs.Links.{links_in, IsJoined}
@@ -39,7 +39,7 @@ IsFault text f = TextStopsAt text f ⊎ IsFaultOfWalk text f
 -- which has no place.
 abbrev pub Parses : List ℕ → Result Graph ClickFault → Type 0
 Parses text (Ok g) = IsGraph text g
-Parses text (Err e) = (e ≡ no_memory) ⊎ ((f : Fault) × IsFault text f × (e ≡ placed text f))
+Parses text (Err e) = (e ≡ no_memory) ⊎ ((f : Fault) × IsFault text f × (e ≡ located text f))
 
 -- no other graph is one of the text
 abbrev pub IsOnly : List ℕ → Graph → Type 0
@@ -51,4 +51,4 @@ HasNone text = (g : Graph) → IsGraph text g → ⊥
 
 abbrev pub Refuses : List ℕ → Result Graph ClickFault → Type 0
 Refuses text (Ok g) = Unit {0}
-Refuses text (Err e) = (e ≡ no_memory) ⊎ (HasNone text × ((f : Fault) → IsFault text f → e ≡ placed text f))
+Refuses text (Err e) = (e ≡ no_memory) ⊎ (HasNone text × ((f : Fault) → IsFault text f → e ≡ located text f))

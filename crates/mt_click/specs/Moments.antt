@@ -1,18 +1,18 @@
--- The moments of the walk over a configuration, in its order: what each part does or has at fault, each
+-- The moments of the walk over a configuration, in its order: what each phrase does or has at fault, each
 -- name told as what it stands for.
 use Rattle.std.specs.Prelude.{ℕ, List, [], ◌∷◌, ◌++◌, length, slice_get, codes, Option, Some, None, is_some, option_and_then, Bool, true, false, ◌&&◌, ◌||◌, not, nat_lt, if◌then◌else◌}
 use Rattle.std.specs.Str.{bytes_eq}
 use Rattle.mt_syntax.specs.declared.fault.ClickWhy.TheVariants as whys
 use Rattle.mt_syntax.specs.declared.fault.ClickWhy.{ClickWhy}
 use Rattle.mt_syntax.specs.declared.fault.Fault.{Fault}
-use Rattle.mt_syntax.specs.declared.part.Word.{Word}
-use Rattle.mt_syntax.specs.declared.part.Use.{Use}
-use Rattle.mt_syntax.specs.declared.part.Port.{Port}
-use Rattle.mt_syntax.specs.declared.part.End.{End}
-use Rattle.mt_syntax.specs.declared.part.Item.{Item}
-use Rattle.mt_syntax.specs.declared.part.Item.TheVariants as items
-use Rattle.mt_syntax.specs.declared.part.Part.{Part}
-use Rattle.mt_syntax.specs.declared.part.Part.TheVariants as parts
+use Rattle.mt_syntax.specs.declared.word.Word.{Word}
+use Rattle.mt_syntax.specs.declared.phrase.Use.{Use}
+use Rattle.mt_syntax.specs.declared.phrase.PortNumber.{PortNumber}
+use Rattle.mt_syntax.specs.declared.phrase.Endpoint.{Endpoint}
+use Rattle.mt_syntax.specs.declared.phrase.Item.{Item}
+use Rattle.mt_syntax.specs.declared.phrase.Item.TheVariants as items
+use Rattle.mt_syntax.specs.declared.phrase.Phrase.{Phrase}
+use Rattle.mt_syntax.specs.declared.phrase.Phrase.TheVariants as phrases
 use Rattle.mt_click.specs.declared.scope.Scope.{Scope}
 use Rattle.mt_click.specs.declared.table.Entry.{Entry}
 use Rattle.mt_click.specs.declared.moment.Moment.{Moment}
@@ -101,10 +101,10 @@ making names s name u = making_of name u (class_named names s u.class) ∷ []
 -- A connection leads to a port that the body of the class names.
 unfoldable pub reaching : Names → Option ℕ → List ℕ → ℕ → ℕ → List Moment
 reaching names None side number at = []
-reaching names (Some k) side number at = if is_some (first_entry names.text names.ports k number side) then [] else moments.Port (wrong whys.NoPort at) ∷ []
+reaching names (Some k) side number at = if is_some (first_entry names.text names.ports k number side) then [] else moments.PortNumber (wrong whys.NoPort at) ∷ []
 
 -- a port that is written out
-unfoldable pub written : Names → Option ℕ → List ℕ → Option Port → List Moment
+unfoldable pub written : Names → Option ℕ → List ℕ → Option PortNumber → List Moment
 written names class side None = []
 written names class side (Some p) = reaching names class side p.number p.at
 
@@ -114,10 +114,10 @@ first_place (items.Declared w u) = w.from
 first_place (items.Made u) = u.class.from
 
 -- a port that is left out is 0
-unfoldable pub left_out : Names → Option ℕ → List ℕ → Bool → Option Port → ℕ → List Moment
+unfoldable pub left_out : Names → Option ℕ → List ℕ → Bool → Option PortNumber → ℕ → List Moment
 left_out names class side joined port at = if joined && not (is_some port) then reaching names class side 0 at else []
 
-unfoldable pub leaving_out : Names → Option ℕ → Bool → Bool → End → List Moment
+unfoldable pub leaving_out : Names → Option ℕ → Bool → Bool → Endpoint → List Moment
 leaving_out names class next joined e =
     left_out names class (codes "input") next e.input (first_place e.item) ++ left_out names class (codes "output") joined e.output (first_place e.item)
 
@@ -126,21 +126,21 @@ leaving_out names class next joined e =
 abbrev pub alone : Word → Use
 alone w = record { class = w; arguments = None }
 
-unfoldable pub unnamed : Names → Scope → Option ℕ → Bool → Bool → End → Use → List Moment
+unfoldable pub unnamed : Names → Scope → Option ℕ → Bool → Bool → Endpoint → Use → List Moment
 unnamed names s class next joined e u = using names s u.class ++ (counting names s u ++ (leaving_out names class next joined e ++ making names s None u))
 
-unfoldable pub named : Names → Scope → Option ℕ → Bool → Bool → End → Word → Use → List Moment
+unfoldable pub named : Names → Scope → Option ℕ → Bool → Bool → Endpoint → Word → Use → List Moment
 named names s class next joined e w u = naming names s w ++ (leaving_out names class next joined e ++ (using names s u.class ++ (counting names s u ++ making names s (Some w) u)))
 
-unfoldable pub item_moments : Names → Scope → Option ℕ → Bool → Bool → End → Item → List Moment
+unfoldable pub item_moments : Names → Scope → Option ℕ → Bool → Bool → Endpoint → Item → List Moment
 item_moments names s class next joined e (items.Declared w u) = named names s class next joined e w u
 item_moments names s class next joined e (items.Made u) = unnamed names s class next joined e u
 item_moments names s class next joined e (items.Name w) = if is_new names s w then unnamed names s class next joined e (alone w) else leaving_out names class next joined e
 
-unfoldable pub whole_end : Names → Scope → Option ℕ → Bool → Bool → End → List Moment
+unfoldable pub whole_end : Names → Scope → Option ℕ → Bool → Bool → Endpoint → List Moment
 whole_end names s class next joined e = written names class (codes "input") e.input ++ (item_moments names s class next joined e e.item ++ written names class (codes "output") e.output)
 
-unfoldable pub end_moments : Names → Scope → Bool → Bool → End → List Moment
+unfoldable pub end_moments : Names → Scope → Bool → Bool → Endpoint → List Moment
 end_moments names s next joined e = whole_end names s (class_of_item names s e.item) next joined e
 
 -- where what a name stands for is made
@@ -161,16 +161,16 @@ item_side names s border port (items.Made u) = Some (sides.Made u.class.from por
 item_side names s border port (items.Name w) = name_side names s border port w
 
 -- what a connection leaves at an end, with the end's output port, and what it comes to, with the input port
-unfoldable pub source : Names → Scope → End → Option Side
+unfoldable pub source : Names → Scope → Endpoint → Option Side
 source names s e = item_side names s (codes "input") (number_of e.output) e.item
 
-unfoldable pub sink : Names → Scope → End → Option Side
+unfoldable pub sink : Names → Scope → Endpoint → Option Side
 sink names s e = item_side names s (codes "output") (number_of e.input) e.item
 
--- what a connection leaves that stands behind a part
-unfoldable pub side_behind : Names → Scope → Part → Option Side
-side_behind names s (parts.First e) = source names s e
-side_behind names s (parts.Next arrow e) = source names s e
+-- what a connection leaves that stands behind a phrase
+unfoldable pub side_behind : Names → Scope → Phrase → Option Side
+side_behind names s (phrases.First e) = source names s e
+side_behind names s (phrases.Next arrow e) = source names s e
 side_behind names s _ = None
 
 -- a connection joins two ends
@@ -191,18 +191,18 @@ group_moments names s u (w ∷ ws) = counting names s u ++ (making names s (Some
 unfoldable pub class_moments : Names → Scope → Word → List Moment
 class_moments names s w = if is_some (class_named names s w) then moments.Name (wrong whys.Redeclared w.from) ∷ moments.Class ∷ [] else moments.Class ∷ []
 
-unfoldable pub part_moments : Names → Scope → List Word → Option Side → Bool → Part → List Moment
-part_moments names s ws before joined (parts.Class w) = class_moments names s w
-part_moments names s ws before joined (parts.Parameter w) = moments.Parameter w ∷ []
-part_moments names s ws before joined parts.Close = moments.Close ∷ []
-part_moments names s ws before joined (parts.Declared w) = naming names s w
-part_moments names s ws before joined (parts.Made u) = using names s u.class ++ (rooming names s u ws ++ group_moments names s u ws)
-part_moments names s ws before joined (parts.First e) = end_moments names s false joined e
-part_moments names s ws before joined (parts.Next arrow e) = end_moments names s true joined e ++ joining arrow before (sink names s e)
+unfoldable pub part_moments : Names → Scope → List Word → Option Side → Bool → Phrase → List Moment
+part_moments names s ws before joined (phrases.Class w) = class_moments names s w
+part_moments names s ws before joined (phrases.Parameter w) = moments.Parameter w ∷ []
+part_moments names s ws before joined phrases.Close = moments.Close ∷ []
+part_moments names s ws before joined (phrases.Declared w) = naming names s w
+part_moments names s ws before joined (phrases.Made u) = using names s u.class ++ (rooming names s u ws ++ group_moments names s u ws)
+part_moments names s ws before joined (phrases.First e) = end_moments names s false joined e
+part_moments names s ws before joined (phrases.Next arrow e) = end_moments names s true joined e ++ joining arrow before (sink names s e)
 
-unfoldable pub moments_from : Names → Scope → List Word → Option Side → List Part → List Moment
+unfoldable pub moments_from : Names → Scope → List Word → Option Side → List Phrase → List Moment
 moments_from names s ws before [] = []
 moments_from names s ws before (p ∷ ps) = part_moments names s ws before (is_joined ps) p ++ moments_from names (behind s p) (waiting_behind ws p) (side_behind names s p) ps
 
-abbrev pub moments_in : List ℕ → List Part → List Moment
+abbrev pub moments_in : List ℕ → List Phrase → List Moment
 moments_in text ps = moments_from (names_in text ps) outside [] None ps

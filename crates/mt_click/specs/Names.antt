@@ -1,13 +1,13 @@
 -- What is declared in each scope: classes, names of elements, and the ports that bodies name.
 use Rattle.std.specs.Prelude.{ℕ, ◌+◌, List, [], ◌∷◌, ◌++◌, map, codes, Option, Some, None, Bool, true, false, ◌&&◌, nat_eq, nat_lt, if◌then◌else◌}
 use Rattle.std.specs.Str.{bytes_eq}
-use Rattle.mt_syntax.specs.declared.part.Word.{Word}
-use Rattle.mt_syntax.specs.declared.part.Port.{Port}
-use Rattle.mt_syntax.specs.declared.part.End.{End}
-use Rattle.mt_syntax.specs.declared.part.Item.{Item}
-use Rattle.mt_syntax.specs.declared.part.Item.TheVariants as items
-use Rattle.mt_syntax.specs.declared.part.Part.{Part}
-use Rattle.mt_syntax.specs.declared.part.Part.TheVariants as parts
+use Rattle.mt_syntax.specs.declared.word.Word.{Word}
+use Rattle.mt_syntax.specs.declared.phrase.PortNumber.{PortNumber}
+use Rattle.mt_syntax.specs.declared.phrase.Endpoint.{Endpoint}
+use Rattle.mt_syntax.specs.declared.phrase.Item.{Item}
+use Rattle.mt_syntax.specs.declared.phrase.Item.TheVariants as items
+use Rattle.mt_syntax.specs.declared.phrase.Phrase.{Phrase}
+use Rattle.mt_syntax.specs.declared.phrase.Phrase.TheVariants as phrases
 use Rattle.mt_click.specs.declared.scope.Scope.{Scope}
 use Rattle.mt_click.specs.declared.table.Entry.{Entry}
 use Rattle.mt_click.specs.Scopes.{behind, scope_number, outside}
@@ -30,11 +30,11 @@ abbrev pub first_entry : List ℕ → List Entry → ℕ → ℕ → List ℕ �
 first_entry text entries scope number name = first_from (is_entry text scope number name) 0 entries
 
 -- the classes, in the order of their declarations
-abbrev pub class_at : Part → List Entry
-class_at (parts.Class w) = entry 0 0 w None ∷ []
+abbrev pub class_at : Phrase → List Entry
+class_at (phrases.Class w) = entry 0 0 w None ∷ []
 class_at _ = []
 
-unfoldable pub classes_in : List Part → List Entry
+unfoldable pub classes_in : List Phrase → List Entry
 classes_in [] = []
 classes_in (p ∷ ps) = class_at p ++ classes_in ps
 
@@ -47,54 +47,54 @@ below n (Some k) = if nat_lt k n then Some k else None
 unfoldable pub class_of : List ℕ → List Entry → Scope → List ℕ → Option ℕ
 class_of text classes s name = below s.known (first_entry text classes 0 0 name)
 
--- The names that a part declares, each with the class that it is a use of. Those before one `::` are
+-- The names that a phrase declares, each with the class that it is a use of. Those before one `::` are
 -- waiting for the use behind it.
-abbrev pub waiting_behind : List Word → Part → List Word
-waiting_behind ws (parts.Declared w) = ws ++ w ∷ []
+abbrev pub waiting_behind : List Word → Phrase → List Word
+waiting_behind ws (phrases.Declared w) = ws ++ w ∷ []
 waiting_behind ws _ = []
 
 unfoldable pub declared_in : List ℕ → List Entry → Scope → Item → List Entry
 declared_in text classes s (items.Declared w u) = entry (scope_number s) 0 w (class_of text classes s (bytes_of text u.class)) ∷ []
 declared_in text classes s _ = []
 
-unfoldable pub declared_at : List ℕ → List Entry → Scope → List Word → Part → List Entry
-declared_at text classes s ws (parts.Made u) = map (λ w. entry (scope_number s) 0 w (class_of text classes s (bytes_of text u.class))) ws
-declared_at text classes s ws (parts.First e) = declared_in text classes s e.item
-declared_at text classes s ws (parts.Next arrow e) = declared_in text classes s e.item
+unfoldable pub declared_at : List ℕ → List Entry → Scope → List Word → Phrase → List Entry
+declared_at text classes s ws (phrases.Made u) = map (λ w. entry (scope_number s) 0 w (class_of text classes s (bytes_of text u.class))) ws
+declared_at text classes s ws (phrases.First e) = declared_in text classes s e.item
+declared_at text classes s ws (phrases.Next arrow e) = declared_in text classes s e.item
 declared_at text classes s ws _ = []
 
-unfoldable pub names_from : List ℕ → List Entry → Scope → List Word → List Part → List Entry
+unfoldable pub names_from : List ℕ → List Entry → Scope → List Word → List Phrase → List Entry
 names_from text classes s ws [] = []
 names_from text classes s ws (p ∷ ps) = declared_at text classes s ws p ++ names_from text classes (behind s p) (waiting_behind ws p) ps
 
 -- a port that is left out is 0
-abbrev pub number_of : Option Port → ℕ
+abbrev pub number_of : Option PortNumber → ℕ
 number_of None = 0
 number_of (Some p) = p.number
 
 -- a `->` stands behind
-abbrev pub is_joined : List Part → Bool
-is_joined (parts.Next arrow e ∷ ps) = true
+abbrev pub is_joined : List Phrase → Bool
+is_joined (phrases.Next arrow e ∷ ps) = true
 is_joined _ = false
 
 -- the ports that the body of a class names, under the class's number: `input [k]` before a `->`,
 -- `[k] output` behind one
-unfoldable pub port_at : List ℕ → Scope → List ℕ → Option Port → Item → List Entry
+unfoldable pub port_at : List ℕ → Scope → List ℕ → Option PortNumber → Item → List Entry
 port_at text s name port (items.Name w) = if s.inside && bytes_eq (bytes_of text w) name then entry s.known (number_of port) w None ∷ [] else []
 port_at text s name port _ = []
 
-unfoldable pub input_at : List ℕ → Scope → Bool → End → List Entry
+unfoldable pub input_at : List ℕ → Scope → Bool → Endpoint → List Entry
 input_at text s joined e = if joined then port_at text s (codes "input") e.output e.item else []
 
-unfoldable pub output_at : List ℕ → Scope → End → List Entry
+unfoldable pub output_at : List ℕ → Scope → Endpoint → List Entry
 output_at text s e = port_at text s (codes "output") e.input e.item
 
-unfoldable pub ports_at : List ℕ → Scope → Bool → Part → List Entry
-ports_at text s joined (parts.First e) = input_at text s joined e
-ports_at text s joined (parts.Next arrow e) = output_at text s e ++ input_at text s joined e
+unfoldable pub ports_at : List ℕ → Scope → Bool → Phrase → List Entry
+ports_at text s joined (phrases.First e) = input_at text s joined e
+ports_at text s joined (phrases.Next arrow e) = output_at text s e ++ input_at text s joined e
 ports_at text s joined _ = []
 
-unfoldable pub ports_from : List ℕ → Scope → List Part → List Entry
+unfoldable pub ports_from : List ℕ → Scope → List Phrase → List Entry
 ports_from text s [] = []
 ports_from text s (p ∷ ps) = ports_at text s (is_joined ps) p ++ ports_from text (behind s p) ps
 
@@ -105,7 +105,7 @@ pub record Names : Type 0 where
   pub names : List Entry
   pub ports : List Entry
 
-abbrev pub names_in : List ℕ → List Part → Names
+abbrev pub names_in : List ℕ → List Phrase → Names
 names_in text ps = record {
   text = text;
   classes = classes_in ps;

@@ -1,13 +1,13 @@
 -- Scopes: the body of each class, and all that is outside classes.
 use Rattle.std.specs.Prelude.{ℕ, ◌+◌, true, false, if◌then◌else◌}
-use Rattle.mt_syntax.specs.declared.part.Part.{Part}
-use Rattle.mt_syntax.specs.declared.part.Part.TheVariants as parts
+use Rattle.mt_syntax.specs.declared.phrase.Phrase.{Phrase}
+use Rattle.mt_syntax.specs.declared.phrase.Phrase.TheVariants as phrases
 use Rattle.mt_click.specs.declared.scope.Scope.{Scope}
 
--- the scope behind a part
-abbrev pub behind : Scope → Part → Scope
-behind s (parts.Class w) = record { inside = true; known = s.known }
-behind s parts.Close = record { inside = false; known = s.known + 1 }
+-- the scope behind a phrase
+abbrev pub behind : Scope → Phrase → Scope
+behind s (phrases.Class w) = record { inside = true; known = s.known }
+behind s phrases.Close = record { inside = false; known = s.known + 1 }
 behind s _ = s
 
 -- the number of a scope: 0 outside classes, and from 1 on the bodies

@@ -1,8 +1,8 @@
 -- What holds of every graph.
 use Rattle.std.specs.Prelude.{◌≡◌, ℕ, ◌<◌, ◌≤◌, List, [], ◌∷◌, ◌++◌, length, Contains}
 use Rattle.std.specs.List.{AllPairs}
-use Rattle.mt_click.specs.declared.element.Element.{Element}
-use Rattle.mt_click.specs.declared.graph.Wire.{Wire}
+use Rattle.mt_graph.specs.declared.Element.{Element}
+use Rattle.mt_graph.specs.declared.Wire.{Wire}
 
 -- wires join elements that are there
 abbrev pub AreWithin : ℕ → List Wire → Type 0

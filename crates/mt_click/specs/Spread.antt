@@ -3,11 +3,11 @@ use Rattle.std.specs.Prelude.{ℕ, suc, List, [], ◌∷◌, ◌++◌, length, O
 use Rattle.std.specs.Str.{bytes_eq}
 use Rattle.std.specs.Option.{option_map}
 use Rattle.mt_syntax.specs.declared.fault.ClickWhy.TheVariants as whys
-use Rattle.mt_syntax.specs.declared.part.Word.{Word}
-use Rattle.mt_syntax.specs.declared.part.Use.{Use}
+use Rattle.mt_syntax.specs.declared.word.Word.{Word}
+use Rattle.mt_syntax.specs.declared.phrase.Use.{Use}
 use Rattle.mt_syntax.specs.declared.token.Token.{Token}
 use Rattle.mt_syntax.specs.Reading.{word}
-use Rattle.mt_syntax.specs.Grammar.{UseTree, use_of, PortTree, ItemTree, alone, named, made, EndTree, StatementTree, connect, declare, InnerTree, sign, plain, ClassTree, OuterTree, outer, class}
+use Rattle.mt_syntax.specs.Grammar.{UseTree, use_of, PortTree, ItemTree, alone, named, made, EndpointTree, StatementTree, connect, declare, InnerTree, sign, plain, ClassTree, OuterTree, outer, class}
 use Rattle.mt_click.specs.declared.moment.Moment.{Moment}
 use Rattle.mt_click.specs.declared.moment.Moment.TheVariants as moments
 use Rattle.mt_click.specs.declared.moment.Side.{Side}
@@ -57,7 +57,7 @@ is_in n (m ∷ ms) = nat_eq n m || is_in n ms
 -- a connection leads to a port that the body names
 unfoldable pub reaching_of : (ClassTree → List ℕ) → Found → ℕ → ℕ → List Moment
 reaching_of ports None n at = []
-reaching_of ports (Some x) n at = if is_in n (ports x.0) then [] else moments.Port (wrong whys.NoPort at) ∷ []
+reaching_of ports (Some x) n at = if is_in n (ports x.0) then [] else moments.PortNumber (wrong whys.NoPort at) ∷ []
 
 unfoldable pub written_of : (ClassTree → List ℕ) → Found → Option PortTree → List Moment
 written_of ports found None = []
@@ -71,29 +71,29 @@ first_of (alone t) = t.from
 first_of (named t colons u) = t.from
 first_of (made t a) = t.from
 
-unfoldable pub leaving_out_of : Sight → Found → Bool → Bool → EndTree → List Moment
+unfoldable pub leaving_out_of : Sight → Found → Bool → Bool → EndpointTree → List Moment
 leaving_out_of s found before behind e =
     left_out_of (inputs_of s.text) found before e.input (first_of e.item) ++ left_out_of (outputs_of s.text) found behind e.output (first_of e.item)
 
-unfoldable pub unnamed_of : Sight → Found → Bool → Bool → EndTree → UseTree → List Moment
+unfoldable pub unnamed_of : Sight → Found → Bool → Bool → EndpointTree → UseTree → List Moment
 unnamed_of s found before behind e u = using_of s u.class ++ (counting_of s u ++ (leaving_out_of s found before behind e ++ making_of s None u))
 
-unfoldable pub named_of : Sight → List Declaration → Found → Bool → Bool → EndTree → Token → UseTree → List Moment
+unfoldable pub named_of : Sight → List Declaration → Found → Bool → Bool → EndpointTree → Token → UseTree → List Moment
 named_of s earlier found before behind e t u =
     naming_of s earlier t ++ (leaving_out_of s found before behind e ++ (using_of s u.class ++ (counting_of s u ++ making_of s (Some (word t)) u)))
 
-unfoldable pub item_of_end : Sight → List Declaration → Found → Bool → Bool → EndTree → ItemTree → List Moment
+unfoldable pub item_of_end : Sight → List Declaration → Found → Bool → Bool → EndpointTree → ItemTree → List Moment
 item_of_end s earlier found before behind e (named t colons u) = named_of s earlier found before behind e t u
 item_of_end s earlier found before behind e (made t a) = unnamed_of s found before behind e (record { class = t; arguments = Some a })
 item_of_end s earlier found before behind e (alone t) =
     if not (is_border s t) && not (is_some (name_meant s t)) then unnamed_of s found before behind e (bare_use t)
     else leaving_out_of s found before behind e
 
-unfoldable pub whole_of : Sight → List Declaration → Found → Bool → Bool → EndTree → List Moment
+unfoldable pub whole_of : Sight → List Declaration → Found → Bool → Bool → EndpointTree → List Moment
 whole_of s earlier found before behind e =
     written_of (inputs_of s.text) found e.input ++ (item_of_end s earlier found before behind e e.item ++ written_of (outputs_of s.text) found e.output)
 
-unfoldable pub moments_of_end : Sight → List Declaration → Bool → Bool → EndTree → List Moment
+unfoldable pub moments_of_end : Sight → List Declaration → Bool → Bool → EndpointTree → List Moment
 moments_of_end s earlier before behind e = whole_of s earlier (item_class s e.item) before behind e
 
 abbrev pub joining_of : ℕ → Option Side → Option Side → List Moment
@@ -101,7 +101,7 @@ joining_of arrow (Some a) (Some b) = moments.Join arrow a b ∷ []
 joining_of arrow _ _ = []
 
 -- the further ends of a connection, behind one; `earlier` is what the scope declares up to there
-unfoldable pub moments_of_next : Sight → List Declaration → EndTree → List (Token × EndTree) → List Moment
+unfoldable pub moments_of_next : Sight → List Declaration → EndpointTree → List (Token × EndpointTree) → List Moment
 moments_of_next s earlier e [] = []
 moments_of_next s earlier e (next ∷ more) =
     moments_of_end s earlier true (has_next more) next.1 ++ (joining_of next.0.from (side_left s e) (side_reached s next.1) ++ moments_of_next s (earlier ++ declared_item s.classes next.1.item) next.1 more)

@@ -3,31 +3,24 @@ use Rattle.std.specs.Prelude.{ℕ, zero, suc, ◌+◌, List, [], ◌∷◌, ◌+
 use Rattle.std.specs.List.{prefix_len}
 use Rattle.mt_syntax.specs.declared.fault.ClickWhy.TheVariants as whys
 use Rattle.mt_syntax.specs.declared.fault.Fault.{Fault}
-use Rattle.mt_syntax.specs.declared.part.Word.{Word}
-use Rattle.mt_syntax.specs.declared.part.Use.{Use}
+use Rattle.mt_syntax.specs.declared.word.Word.{Word}
+use Rattle.mt_syntax.specs.declared.phrase.Use.{Use}
 use Rattle.mt_syntax.specs.declared.replacing.Binding.{Binding}
 use Rattle.mt_click.specs.declared.moment.Moment.{Moment}
 use Rattle.mt_click.specs.declared.walk.Entered.{Entered}
 use Rattle.mt_click.specs.declared.moment.Moment.TheVariants as moments
 use Rattle.mt_syntax.specs.Comment.{bare}
-use Rattle.mt_syntax.specs.Arguments.{shown}
+use Rattle.mt_syntax.specs.Arguments.{shown, shown_index}
 use Rattle.mt_syntax.specs.Replacing.{unknown_in}
 use Rattle.mt_syntax.specs.Reading.{◌>>=◌}
 use Rattle.mt_syntax.specs.Words.{bytes_of, inner}
 use Rattle.mt_click.specs.Elements.{arguments_in, Place, State, empty, top, with_element, with_use, with_join}
 use Rattle.mt_click.specs.Moments.{wrong}
 
--- where the byte of a number stands that no comment hides
-unfoldable pub shown_place : List (Option ℕ) → ℕ → ℕ
-shown_place [] n = 0
-shown_place (None ∷ bs) n = shown_place bs n + 1
-shown_place (Some b ∷ bs) zero = 0
-shown_place (Some b ∷ bs) (suc n) = shown_place bs n + 1
-
 -- a `$` name that is no parameter
 abbrev pub unknown_place : Option Word → List ℕ → ℕ → ℕ
 unknown_place None text n = 0
-unknown_place (Some w) text n = w.from + 1 + shown_place (bare text) n
+unknown_place (Some w) text n = w.from + 1 + shown_index (bare text) n
 
 unfoldable pub known_names : List ℕ → List Binding → Use → Result Bool Fault
 known_names text bindings u =
@@ -68,7 +61,7 @@ entered text p es k u place = known_names text p.bindings u >>= λ _. Ok (with_u
 
 -- A moment outside classes, or in the body of a class at a use of it.
 unfoldable pub moved : List ℕ → List (List Moment) → Place → State → Moment → Result Moved Fault
-moved text bodies p es (moments.Port f) = Err f
+moved text bodies p es (moments.PortNumber f) = Err f
 moved text bodies p es (moments.Count k u) = counted text bodies p.bindings k u >>= λ _. Ok (es, None)
 moved text bodies p es (moments.Room n u) = roomed es n u
 moved text bodies p es (moments.Element name u) = element_moved text p es name u

@@ -1,12 +1,12 @@
 -- The wires of a configuration: ways of links from a real output to a real input.
 use Rattle.std.specs.Prelude.{◌≡◌, ◌↔◌, ◌⊎◌, ℕ, ◌<◌, List, map, Contains}
 use Rattle.std.specs.List.{AllPairs}
-use Rattle.mt_click.specs.declared.graph.Wire.{Wire}
+use Rattle.mt_graph.specs.declared.Wire.{Wire}
 use Rattle.mt_click.specs.declared.link.Node.{Node}
 use Rattle.mt_click.specs.declared.link.Node.TheVariants as nodes
 use Rattle.mt_click.specs.declared.link.Link.{Link}
 use Rattle.mt_click.specs.declared.link.Way.{Way}
-use Rattle.mt_syntax.specs.Place.{line_of}
+use Rattle.mt_syntax.specs.Position.{line_of}
 
 -- A port, what links that leave it come to, and so on. No link leaves an input of an element, so only
 -- ports of uses are passed through.

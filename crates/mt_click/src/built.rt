@@ -1,6 +1,6 @@
 //! What the walk over a configuration makes.
-use crate::element::Element;
 use crate::moment::Side;
+use mt_graph::Element;
 
 /// What is made at a place of the text: the element of that number, or the use of a class of that number.
 #[derive(Clone, Copy, Debug, PartialEq, Eq)]

@@ -8,11 +8,12 @@ ghost use Rattle.mt_click.specs.Sound.{AreWithin, AreNamesApart, AreArgumentsFew
 
 use crate::built::Built;
 use crate::expand::built_of;
-use crate::graph::Graph;
 use crate::lines::wires_of;
 use crate::links::links_of;
 use crate::resolving::moments_of;
 use crate::wires::ways_of;
+use mt_graph::Graph;
+use mt_syntax::laws::texts_are_read;
 use mt_syntax::{ClickFault, ClickWhy, ReadError, fault_in, read};
 use std::alloc::Global;
 
@@ -21,8 +22,8 @@ fn expanded(alloc: Global, text: &[u8]) -> Result<Built, ReadError>
     requires { length text.now ≤ 1048576 }
     ensures { Gives state result (built_in text.now) }
 {
-    let parts = read(alloc, text)?;
-    let moments = moments_of(alloc, text, &parts)?;
+    let phrases = read(alloc, text)?;
+    let moments = moments_of(alloc, text, &phrases)?;
     built_of(alloc, text, &moments)
 }
 
@@ -78,5 +79,7 @@ pub fn parse(alloc: Global, text: &[u8]) -> Result<Graph, ClickFault>
     // No element has more than 1,048,576 arguments.
     ensures arguments { IfOk result (λ g. AreArgumentsFew 1048576 g.elements.items) }
 {
+    // The laws of texts, for the proof.
+    texts_are_read();
     found(alloc, text)
 }

@@ -8,8 +8,9 @@ ghost use Rattle.mt_click.specs.Runs.{is_done, run_all, cost_all, use_cost, used
 
 use crate::built::Built;
 use crate::moment::Moment;
-use crate::walk::{Entered, Frame, Source, body_from, body_place, move_on, text_of};
-use mt_syntax::{Binding, ReadError, Text, word_bytes};
+use crate::walk::{Entered, Frame, Source, body_from, body_place, move_on};
+use mt_syntax::{Binding, ReadError, word_bytes};
+use mt_text::Text;
 use std::alloc::{AllocError, Global};
 
 // Where the body of each class begins in the moments.
@@ -36,8 +37,8 @@ fn binding_of(alloc: Global, name: &[u8], argument: &[u8]) -> Result<Binding, Al
     ensures argument { IfOk result (λ b. b.argument ≡ argument.now) }
 {
     Ok(Binding {
-        name: text_of(alloc, behind_first(name))?,
-        argument: text_of(alloc, argument)?,
+        name: Text::copy_of(alloc, behind_first(name))?,
+        argument: Text::copy_of(alloc, argument)?,
     })
 }
 

@@ -7,7 +7,7 @@ ghost use Rattle.mt_click.specs.Moments.{is_pseudo, declared_place, class_at, cl
 use crate::names::{class_in, classes_of, names_of, ports_of};
 use crate::scope::{Scope, number_of};
 use crate::table::{Table, table_of};
-use mt_syntax::{Item, Part, Word, word_bytes};
+use mt_syntax::{Item, Phrase, Word, word_bytes};
 use std::alloc::{AllocError, Global};
 
 /// The classes, the names of elements, and the ports that bodies name.
@@ -20,13 +20,17 @@ pub struct Known<'a> {
 }
 
 /// What is declared in a configuration.
-pub fn known_in<'a>(alloc: Global, text: &'a [u8], parts: &[Part]) -> Result<Known<'a>, AllocError>
-    ensures names { IfOk result (λ k. names k ≡ names_in text.now parts.now) }
+pub fn known_in<'a>(
+    alloc: Global,
+    text: &'a [u8],
+    phrases: &[Phrase],
+) -> Result<Known<'a>, AllocError>
+    ensures names { IfOk result (λ k. names k ≡ names_in text.now phrases.now) }
     ensures tables { IfOk result (λ k. AreTables k) }
 {
-    let classes = table_of(alloc, text, classes_of(alloc, parts)?)?;
-    let names = table_of(alloc, text, names_of(alloc, &classes, parts)?)?;
-    let ports = table_of(alloc, text, ports_of(alloc, text, parts)?)?;
+    let classes = table_of(alloc, text, classes_of(alloc, phrases)?)?;
+    let names = table_of(alloc, text, names_of(alloc, &classes, phrases)?)?;
+    let ports = table_of(alloc, text, ports_of(alloc, text, phrases)?)?;
     Ok(Known {
         text,
         classes,

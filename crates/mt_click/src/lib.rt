@@ -3,9 +3,7 @@
 
 mod built;
 mod configuration;
-mod element;
 mod expand;
-mod graph;
 mod known;
 mod lines;
 mod link;
@@ -21,9 +19,9 @@ mod walk;
 mod wires;
 
 pub use configuration::parse;
-pub use element::Element;
-pub use graph::{Graph, Wire};
-pub use mt_syntax::{ClickFault, ClickWhy, Text, Texts};
+pub use mt_graph::{Element, Graph, Wire};
+pub use mt_syntax::{ClickFault, ClickWhy};
+pub use mt_text::{Text, Texts};
 
 #[cfg(test)]
 mod chains;

@@ -10,7 +10,7 @@ pub enum Side {
     Made(usize, u32),
 }
 
-/// What the walk meets: a fault, or what a part does. A class stands as its number, from 0 in the order
+/// What the walk meets: a fault, or what a phrase does. A class stands as its number, from 0 in the order
 /// of declaration.
 #[derive(Clone, Copy, Debug, PartialEq, Eq)]
 pub enum Moment {
@@ -23,7 +23,7 @@ pub enum Moment {
     /// A name at fault. It is met where it stands, and in a body at the declaration of the class.
     Name(Fault),
     /// A port that the class does not name. In a body it is met at each use.
-    Port(Fault),
+    PortNumber(Fault),
     /// The arguments of a use of the class of that number are counted.
     Count(usize, Use),
     /// So many elements of a use come, which all have room or none.

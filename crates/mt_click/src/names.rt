@@ -6,14 +6,14 @@ ghost use Rattle.mt_click.specs.Tables.{IsTable};
 
 use crate::scope::{Scope, number_of, scope_behind};
 use crate::table::{Entry, Table};
-use mt_syntax::{End, Item, Part, Port, Word, word_bytes};
+use mt_syntax::{Endpoint, Item, Phrase, PortNumber, Word, word_bytes};
 use std::alloc::{AllocError, Global};
 
-fn push_class(entries: &mut Vec<Entry>, part: Part) -> Result<(), AllocError>
-    ensures { OnOk result (entries.new.items ≡ entries.old.items ++ class_at part) }
+fn push_class(entries: &mut Vec<Entry>, phrase: Phrase) -> Result<(), AllocError>
+    ensures { OnOk result (entries.new.items ≡ entries.old.items ++ class_at phrase) }
 {
-    match part {
-        Part::Class(word) => {
+    match phrase {
+        Phrase::Class(word) => {
             entries.push(Entry {
                 scope: 0,
                 number: 0,
@@ -28,13 +28,13 @@ fn push_class(entries: &mut Vec<Entry>, part: Part) -> Result<(), AllocError>
 
 /// The classes, in the order of their declarations.
 #[tactic(auto, unfolding(crate::specs::Names::classes_in))]
-pub fn classes_of(alloc: Global, parts: &[Part]) -> Result<Vec<Entry>, AllocError>
-    ensures { IfOk result (λ v. v.items ≡ classes_in parts.now) }
+pub fn classes_of(alloc: Global, phrases: &[Phrase]) -> Result<Vec<Entry>, AllocError>
+    ensures { IfOk result (λ v. v.items ≡ classes_in phrases.now) }
 {
     let mut entries = Vec::new(alloc);
-    let mut rest = parts;
-    while let [part, after @ ..] = rest {
-        push_class(&mut entries, *part)?;
+    let mut rest = phrases;
+    while let [phrase, after @ ..] = rest {
+        push_class(&mut entries, *phrase)?;
         rest = after;
     }
     Ok(entries)
@@ -59,11 +59,11 @@ pub fn class_in(classes: &Table<'_>, scope: Scope, name: &[u8]) -> Option<usize>
 }
 
 /// Keeps the names that wait for the use behind their `::`.
-pub fn wait(waiting: &mut Vec<Word>, part: Part) -> Result<(), AllocError>
-    ensures { OnOk result (waiting.new.items ≡ waiting_behind waiting.old.items part) }
+pub fn wait(waiting: &mut Vec<Word>, phrase: Phrase) -> Result<(), AllocError>
+    ensures { OnOk result (waiting.new.items ≡ waiting_behind waiting.old.items phrase) }
 {
-    match part {
-        Part::Declared(word) => {
+    match phrase {
+        Phrase::Declared(word) => {
             waiting.push(word)?;
             Ok(())
         }
@@ -129,19 +129,19 @@ fn push_names(
     classes: &Table<'_>,
     scope: Scope,
     waiting: &[Word],
-    part: Part,
+    phrase: Phrase,
 ) -> Result<(), AllocError>
     requires table { IsTable classes.now }
     requires bound { scope.known < 2 ^ 63 }
-    ensures { OnOk result (entries.new.items ≡ entries.old.items ++ declared_at classes.now.text.now classes.now.entries.items scope waiting.now part) }
+    ensures { OnOk result (entries.new.items ≡ entries.old.items ++ declared_at classes.now.text.now classes.now.entries.items scope waiting.now phrase) }
 {
-    match part {
-        Part::Made(made) => {
+    match phrase {
+        Phrase::Made(made) => {
             let class = class_in(classes, scope, word_bytes(classes.text, made.class));
             push_group(entries, scope, class, waiting)
         }
-        Part::First(end) => push_declared(entries, classes, scope, end.item),
-        Part::Next(_, end) => push_declared(entries, classes, scope, end.item),
+        Phrase::First(end) => push_declared(entries, classes, scope, end.item),
+        Phrase::Next(_, end) => push_declared(entries, classes, scope, end.item),
         _ => Ok(()),
     }
 }
@@ -151,10 +151,10 @@ fn push_names(
 pub fn names_of(
     alloc: Global,
     classes: &Table<'_>,
-    parts: &[Part],
+    phrases: &[Phrase],
 ) -> Result<Vec<Entry>, AllocError>
     requires { IsTable classes.now }
-    ensures { IfOk result (λ v. v.items ≡ names_from classes.now.text.now classes.now.entries.items outside [] parts.now) }
+    ensures { IfOk result (λ v. v.items ≡ names_from classes.now.text.now classes.now.entries.items outside [] phrases.now) }
 {
     let mut entries = Vec::new(alloc);
     let mut waiting = Vec::new(alloc);
@@ -162,18 +162,18 @@ pub fn names_of(
         inside: false,
         known: 0,
     };
-    let mut rest = parts;
-    while let [part, after @ ..] = rest {
-        push_names(&mut entries, classes, scope, &waiting, *part)?;
-        wait(&mut waiting, *part)?;
-        scope = scope_behind(scope, *part);
+    let mut rest = phrases;
+    while let [phrase, after @ ..] = rest {
+        push_names(&mut entries, classes, scope, &waiting, *phrase)?;
+        wait(&mut waiting, *phrase)?;
+        scope = scope_behind(scope, *phrase);
         rest = after;
     }
     Ok(entries)
 }
 
 /// The number of a port; one that is left out is 0.
-pub fn port_number(port: Option<Port>) -> u32
+pub fn port_number(port: Option<PortNumber>) -> u32
     ensures { result ≡ number_of port }
 {
     match port {
@@ -182,12 +182,12 @@ pub fn port_number(port: Option<Port>) -> u32
     }
 }
 
-/// Whether a `->` stands in front of the parts.
-pub fn joins(parts: &[Part]) -> bool
-    ensures { result ≡ is_joined parts.now }
+/// Whether a `->` stands in front of the phrases.
+pub fn joins(phrases: &[Phrase]) -> bool
+    ensures { result ≡ is_joined phrases.now }
 {
-    match parts {
-        [Part::Next(_, _), ..] => true,
+    match phrases {
+        [Phrase::Next(_, _), ..] => true,
         _ => false,
     }
 }
@@ -198,7 +198,7 @@ fn push_port(
     text: &[u8],
     scope: Scope,
     name: &[u8],
-    port: Option<Port>,
+    port: Option<PortNumber>,
     item: Item,
 ) -> Result<(), AllocError>
     ensures { OnOk result (entries.new.items ≡ entries.old.items ++ port_at text.now scope name.now port item) }
@@ -225,7 +225,7 @@ fn push_input(
     text: &[u8],
     scope: Scope,
     joined: bool,
-    end: End,
+    end: Endpoint,
 ) -> Result<(), AllocError>
     ensures { OnOk result (entries.new.items ≡ entries.old.items ++ input_at text.now scope joined end) }
 {
@@ -241,7 +241,7 @@ fn push_output(
     entries: &mut Vec<Entry>,
     text: &[u8],
     scope: Scope,
-    end: End,
+    end: Endpoint,
 ) -> Result<(), AllocError>
     ensures { OnOk result (entries.new.items ≡ entries.old.items ++ output_at text.now scope end) }
 {
@@ -254,13 +254,13 @@ fn push_ports(
     text: &[u8],
     scope: Scope,
     joined: bool,
-    part: Part,
+    phrase: Phrase,
 ) -> Result<(), AllocError>
-    ensures { OnOk result (entries.new.items ≡ entries.old.items ++ ports_at text.now scope joined part) }
+    ensures { OnOk result (entries.new.items ≡ entries.old.items ++ ports_at text.now scope joined phrase) }
 {
-    match part {
-        Part::First(end) => push_input(entries, text, scope, joined, end),
-        Part::Next(_, end) => {
+    match phrase {
+        Phrase::First(end) => push_input(entries, text, scope, joined, end),
+        Phrase::Next(_, end) => {
             push_output(entries, text, scope, end)?;
             push_input(entries, text, scope, joined, end)
         }
@@ -270,18 +270,18 @@ fn push_ports(
 
 /// The ports that the bodies of classes name.
 #[tactic(auto, unfolding(crate::specs::Names::ports_from))]
-pub fn ports_of(alloc: Global, text: &[u8], parts: &[Part]) -> Result<Vec<Entry>, AllocError>
-    ensures { IfOk result (λ v. v.items ≡ ports_from text.now outside parts.now) }
+pub fn ports_of(alloc: Global, text: &[u8], phrases: &[Phrase]) -> Result<Vec<Entry>, AllocError>
+    ensures { IfOk result (λ v. v.items ≡ ports_from text.now outside phrases.now) }
 {
     let mut entries = Vec::new(alloc);
     let mut scope = Scope {
         inside: false,
         known: 0,
     };
-    let mut rest = parts;
-    while let [part, after @ ..] = rest {
-        push_ports(&mut entries, text, scope, joins(after), *part)?;
-        scope = scope_behind(scope, *part);
+    let mut rest = phrases;
+    while let [phrase, after @ ..] = rest {
+        push_ports(&mut entries, text, scope, joins(after), *phrase)?;
+        scope = scope_behind(scope, *phrase);
         rest = after;
     }
     Ok(entries)

@@ -1,4 +1,4 @@
-//! The moments of the walk: what each part does or has at fault, each name told as what it stands for.
+//! The moments of the walk: what each phrase does or has at fault, each name told as what it stands for.
 ghost use Rattle.std.specs.Prelude.{◌≡◌, ◌+◌, ◌++◌, ◌^◌, ◌<◌, IfOk, OnOk, None, []};
 ghost use Rattle.mt_click.specs.Scopes.{outside};
 ghost use Rattle.mt_click.specs.Tables.{AreTables, names};
@@ -12,14 +12,14 @@ use crate::moment::{Moment, Side};
 use crate::names::{joins, wait};
 use crate::scope::{Scope, scope_behind};
 use crate::sides::{side_of_part, sink_of};
-use mt_syntax::{ClickWhy, End, Fault, Item, Part, Port, Use, Word};
+use mt_syntax::{ClickWhy, Endpoint, Fault, Item, Phrase, PortNumber, Use, Word};
 use std::alloc::{AllocError, Global};
 
 /// An end of a connection, the class of what it stands for, where that is a use of one, and whether a
 /// `->` stands before the end and behind it.
 #[derive(Clone, Copy)]
 struct Met {
-    end: End,
+    end: Endpoint,
     class: Option<usize>,
     next: bool,
     joined: bool,
@@ -131,7 +131,7 @@ fn push_reaching(
     match class {
         Some(class) => {
             if !has_port(known, class, side, number) {
-                out.push(Moment::Port(Fault {
+                out.push(Moment::PortNumber(Fault {
                     why: ClickWhy::NoPort,
                     at,
                 }))?;
@@ -148,7 +148,7 @@ fn push_written(
     known: &Known<'_>,
     class: Option<usize>,
     side: &[u8],
-    port: Option<Port>,
+    port: Option<PortNumber>,
 ) -> Result<(), AllocError>
     requires { AreTables known.now }
     ensures { OnOk result (out.new.items ≡ out.old.items ++ written (names known.now) class side.now port) }
@@ -176,7 +176,7 @@ fn push_left_out(
     class: Option<usize>,
     side: &[u8],
     joined: bool,
-    port: Option<Port>,
+    port: Option<PortNumber>,
     at: usize,
 ) -> Result<(), AllocError>
     requires { AreTables known.now }
@@ -295,7 +295,7 @@ fn push_end(
     scope: Scope,
     next: bool,
     joined: bool,
-    end: End,
+    end: Endpoint,
 ) -> Result<(), AllocError>
     requires tables { AreTables known.now }
     requires bound { scope.known < 2 ^ 63 }
@@ -382,37 +382,37 @@ fn push_joining(
 }
 
 #[tactic(auto, unfolding(crate::specs::Moments::part_moments))]
-fn push_part(
+fn push_phrase(
     out: &mut Vec<Moment>,
     known: &Known<'_>,
     scope: Scope,
     waiting: &[Word],
     before: Option<Side>,
     joined: bool,
-    part: Part,
+    phrase: Phrase,
 ) -> Result<(), AllocError>
     requires tables { AreTables known.now }
     requires bound { scope.known < 2 ^ 63 }
-    ensures { OnOk result (out.new.items ≡ out.old.items ++ part_moments (names known.now) scope waiting.now before joined part) }
+    ensures { OnOk result (out.new.items ≡ out.old.items ++ part_moments (names known.now) scope waiting.now before joined phrase) }
 {
-    match part {
-        Part::Class(word) => push_class(out, known, scope, word),
-        Part::Parameter(word) => {
+    match phrase {
+        Phrase::Class(word) => push_class(out, known, scope, word),
+        Phrase::Parameter(word) => {
             out.push(Moment::Parameter(word))?;
             Ok(())
         }
-        Part::Close => {
+        Phrase::Close => {
             out.push(Moment::Close)?;
             Ok(())
         }
-        Part::Declared(word) => push_naming(out, known, scope, word),
-        Part::Made(made) => {
+        Phrase::Declared(word) => push_naming(out, known, scope, word),
+        Phrase::Made(made) => {
             push_using(out, known, scope, made.class)?;
             push_rooming(out, known, scope, made, waiting)?;
             push_group(out, known, scope, made, waiting)
         }
-        Part::First(end) => push_end(out, known, scope, false, joined, end),
-        Part::Next(arrow, end) => {
+        Phrase::First(end) => push_end(out, known, scope, false, joined, end),
+        Phrase::Next(arrow, end) => {
             push_end(out, known, scope, true, joined, end)?;
             push_joining(out, arrow, before, sink_of(known, scope, end))
         }
@@ -420,9 +420,9 @@ fn push_part(
 }
 
 #[tactic(auto, unfolding(crate::specs::Moments::moments_from))]
-fn resolved(alloc: Global, known: &Known<'_>, parts: &[Part]) -> Result<Vec<Moment>, AllocError>
+fn resolved(alloc: Global, known: &Known<'_>, phrases: &[Phrase]) -> Result<Vec<Moment>, AllocError>
     requires { AreTables known.now }
-    ensures { IfOk result (λ v. v.items ≡ moments_from (names known.now) outside [] None parts.now) }
+    ensures { IfOk result (λ v. v.items ≡ moments_from (names known.now) outside [] None phrases.now) }
 {
     let mut out = Vec::new(alloc);
     let mut waiting = Vec::new(alloc);
@@ -431,29 +431,29 @@ fn resolved(alloc: Global, known: &Known<'_>, parts: &[Part]) -> Result<Vec<Mome
         inside: false,
         known: 0,
     };
-    let mut rest = parts;
-    while let [part, after @ ..] = rest {
-        push_part(
+    let mut rest = phrases;
+    while let [phrase, after @ ..] = rest {
+        push_phrase(
             &mut out,
             known,
             scope,
             &waiting,
             before,
             joins(after),
-            *part,
+            *phrase,
         )?;
-        wait(&mut waiting, *part)?;
-        before = side_of_part(known, scope, *part);
-        scope = scope_behind(scope, *part);
+        wait(&mut waiting, *phrase)?;
+        before = side_of_part(known, scope, *phrase);
+        scope = scope_behind(scope, *phrase);
         rest = after;
     }
     Ok(out)
 }
 
 /// The moments of the walk over a configuration.
-pub fn moments_of(alloc: Global, text: &[u8], parts: &[Part]) -> Result<Vec<Moment>, AllocError>
-    ensures { IfOk result (λ v. v.items ≡ moments_in text.now parts.now) }
+pub fn moments_of(alloc: Global, text: &[u8], phrases: &[Phrase]) -> Result<Vec<Moment>, AllocError>
+    ensures { IfOk result (λ v. v.items ≡ moments_in text.now phrases.now) }
 {
-    let known = known_in(alloc, text, parts)?;
-    resolved(alloc, &known, parts)
+    let known = known_in(alloc, text, phrases)?;
+    resolved(alloc, &known, phrases)
 }

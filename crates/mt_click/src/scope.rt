@@ -2,27 +2,27 @@
 ghost use Rattle.std.specs.Prelude.{◌≡◌, ◌+◌, ◌<◌, ◌≤◌, ◌^◌};
 ghost use Rattle.mt_click.specs.Scopes.{behind, scope_number};
 
-use mt_syntax::Part;
+use mt_syntax::Phrase;
 
-/// Where a part stands: whether it is in the body of a class, and how many classes end before it.
+/// Where a phrase stands: whether it is in the body of a class, and how many classes end before it.
 #[derive(Clone, Copy, Debug, PartialEq, Eq)]
 pub struct Scope {
     pub inside: bool,
     pub known: usize,
 }
 
-/// The scope behind a part.
-pub fn scope_behind(scope: Scope, part: Part) -> Scope
+/// The scope behind a phrase.
+pub fn scope_behind(scope: Scope, phrase: Phrase) -> Scope
     requires { scope.known < 2 ^ 63 }
-    ensures scope { result ≡ behind scope part }
+    ensures scope { result ≡ behind scope phrase }
     ensures bound { result.known ≤ scope.known + 1 }
 {
-    match part {
-        Part::Class(_) => Scope {
+    match phrase {
+        Phrase::Class(_) => Scope {
             inside: true,
             known: scope.known,
         },
-        Part::Close => Scope {
+        Phrase::Close => Scope {
             inside: false,
             known: scope.known + 1,
         },

@@ -7,7 +7,7 @@ use crate::known::{Known, is_pseudo_name, place_declared};
 use crate::moment::Side;
 use crate::names::port_number;
 use crate::scope::Scope;
-use mt_syntax::{End, Item, Part, Word, word_bytes};
+use mt_syntax::{Endpoint, Item, Phrase, Word, word_bytes};
 
 // Where what is declared at a place among the names is made.
 fn place_made(known: &Known<'_>, at: usize, place: Option<usize>) -> usize
@@ -67,7 +67,7 @@ fn side_of_item(
 }
 
 #[tactic(auto, unfolding(crate::specs::Moments::source))]
-fn source_of(known: &Known<'_>, scope: Scope, end: End) -> Option<Side>
+fn source_of(known: &Known<'_>, scope: Scope, end: Endpoint) -> Option<Side>
     requires tables { AreTables known.now }
     requires bound { scope.known < 2 ^ 63 }
     ensures { result ≡ source (names known.now) scope end }
@@ -77,7 +77,7 @@ fn source_of(known: &Known<'_>, scope: Scope, end: End) -> Option<Side>
 
 /// What a connection to an end leads to.
 #[tactic(auto, unfolding(crate::specs::Moments::sink))]
-pub fn sink_of(known: &Known<'_>, scope: Scope, end: End) -> Option<Side>
+pub fn sink_of(known: &Known<'_>, scope: Scope, end: Endpoint) -> Option<Side>
     requires tables { AreTables known.now }
     requires bound { scope.known < 2 ^ 63 }
     ensures { result ≡ sink (names known.now) scope end }
@@ -85,16 +85,16 @@ pub fn sink_of(known: &Known<'_>, scope: Scope, end: End) -> Option<Side>
     side_of_item(known, scope, b"output", port_number(end.input), end.item)
 }
 
-/// What a connection leads from that stands behind a part.
+/// What a connection leads from that stands behind a phrase.
 #[tactic(auto, unfolding(crate::specs::Moments::side_behind))]
-pub fn side_of_part(known: &Known<'_>, scope: Scope, part: Part) -> Option<Side>
+pub fn side_of_part(known: &Known<'_>, scope: Scope, phrase: Phrase) -> Option<Side>
     requires tables { AreTables known.now }
     requires bound { scope.known < 2 ^ 63 }
-    ensures { result ≡ side_behind (names known.now) scope part }
+    ensures { result ≡ side_behind (names known.now) scope phrase }
 {
-    match part {
-        Part::First(end) => source_of(known, scope, end),
-        Part::Next(_, end) => source_of(known, scope, end),
+    match phrase {
+        Phrase::First(end) => source_of(known, scope, end),
+        Phrase::Next(_, end) => source_of(known, scope, end),
         _ => None,
     }
 }

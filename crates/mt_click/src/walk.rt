@@ -5,17 +5,18 @@ ghost use Rattle.mt_syntax.specs.Comment.{bare};
 ghost use Rattle.mt_syntax.specs.Reading.{Gives};
 ghost use Rattle.mt_syntax.specs.Words.{bytes_of, inner};
 ghost use Rattle.mt_click.specs.Elements.{arguments_in, scope_text, own_name, element_of, with_join};
-ghost use Rattle.mt_click.specs.Walk.{shown_place, unknown_place, known_names, is_parameter_moment, body_of, parameters, counted, element_moved, roomed, entered, moved};
+ghost use Rattle.mt_click.specs.Walk.{unknown_place, known_names, is_parameter_moment, body_of, parameters, counted, element_moved, roomed, entered, moved};
 ghost use Rattle.mt_click.specs.Stacks.{bodies, numbers, top_bindings, top_around, place_of, state};
 
 use crate::built::{Built, Joined, Made, Thing};
-use crate::element::Element;
 use crate::moment::{Moment, Side};
 use crate::resolving::place_of_own;
+use mt_graph::Element;
 use mt_syntax::{
-    Binding, ClickWhy, Comment, Fault, ReadError, Text, Texts, Use, Word, arguments_of, comment_of,
-    first_unknown, inner_bytes, place_of, replaced, shown_of, word_bytes,
+    Binding, ClickWhy, Fault, ReadError, Use, Word, arguments_of, first_unknown, index_shown,
+    inner_bytes, line_and_column, replaced, shown_of, word_bytes,
 };
+use mt_text::{Text, Texts};
 use std::alloc::{AllocError, Global};
 
 /// The most elements that a configuration may have.
@@ -51,12 +52,6 @@ pub struct Frame {
     pub bindings: Vec<Binding>,
 }
 
-pub fn text_of(alloc: Global, bytes: &[u8]) -> Result<Text, AllocError>
-    ensures { IfOk result (λ t. t ≡ bytes.now) }
-{
-    Ok(Text::new(Vec::from_slice(alloc, bytes)?))
-}
-
 /// The arguments of a use, with each parameter of the class around it replaced before they are
 /// separated.
 #[tactic(auto, unfolding(crate::specs::Elements::arguments_in))]
@@ -73,32 +68,6 @@ fn arguments_of_use(
     Ok(Texts::new(arguments_of(alloc, &whole)?))
 }
 
-// Where the byte of a number stands that no comment hides.
-fn place_shown(body: &[u8], number: usize) -> usize
-    ensures place { result ≡ shown_place (bare body.now) number }
-    ensures within { result ≤ length body.now }
-{
-    let mut left = number;
-    let mut skip = 0;
-    for at in 0..body.len() {
-        if skip > 0 {
-            skip -= 1;
-            continue;
-        }
-        match comment_of(&body[at..]) {
-            Comment::Closed(len) => skip = len.saturating_sub(1),
-            Comment::Open => return body.len(),
-            Comment::Absent => {
-                if left == 0 {
-                    return at;
-                }
-                left -= 1;
-            }
-        }
-    }
-    body.len()
-}
-
 // Where a `$` name stands that is no parameter.
 fn place_unknown(text: &[u8], arguments: Option<Word>, number: usize) -> usize
     requires bound { length text.now ≤ 1048576 }
@@ -108,7 +77,7 @@ fn place_unknown(text: &[u8], arguments: Option<Word>, number: usize) -> usize
     match arguments {
         Some(word) => {
             let body = inner_bytes(text, Some(word));
-            word.from + 1 + place_shown(body, number)
+            word.from + 1 + index_shown(body, number)
         }
         None => 0,
     }
@@ -172,8 +141,8 @@ fn element(
     let mut name = Vec::new(alloc);
     push_numbers(alloc, &mut name, frames)?;
     push_own(&mut name, text, own)?;
-    let class = text_of(alloc, word_bytes(text, made.class))?;
-    let (line, _) = place_of(text, place_of_own(own, made));
+    let class = Text::copy_of(alloc, word_bytes(text, made.class))?;
+    let (line, _) = line_and_column(text, place_of_own(own, made));
     Ok(Element {
         class,
         args,
@@ -361,7 +330,7 @@ pub fn move_on(
     ensures { Gives (λ e. (state built.new, e)) result (moved source.now.text.now (bodies source.now) (place_of frames.now) (state built.old) moment) }
 {
     match moment {
-        Moment::Port(fault) => Err(ReadError::Fault(fault)),
+        Moment::PortNumber(fault) => Err(ReadError::Fault(fault)),
         Moment::Count(class, made) => {
             count(alloc, source, bindings_around(frames), class, made)?;
             Ok(None)

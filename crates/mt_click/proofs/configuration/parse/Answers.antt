@@ -2,22 +2,22 @@ use Rattle.mt_click.proofs.Denoted.{parses, refuses, only_found, few_found, with
 use Rattle.mt_click.proofs.configuration.parse.Goals as goal
 
 pub returns-clause-exact : goal.returns-clause-exact
-returns-clause-exact c = parses c.args.text.now c.found.result c.found.ensures
+returns-clause-exact c = parses c.texts_are_read.ensures c.args.text.now c.found.result c.found.ensures
 
 pub returns-clause-none : goal.returns-clause-none
-returns-clause-none c = refuses c.args.text.now c.found.result c.found.ensures
+returns-clause-none c = refuses c.texts_are_read.ensures c.args.text.now c.found.result c.found.ensures
 
 pub returns-clause-only : goal.returns-clause-only
-returns-clause-only c = only_found c.args.text.now c.found.result c.found.ensures
+returns-clause-only c = only_found c.texts_are_read.ensures c.args.text.now c.found.result c.found.ensures
 
 pub returns-clause-few : goal.returns-clause-few
-returns-clause-few c = few_found c.args.text.now c.found.result c.found.ensures
+returns-clause-few c = few_found c.texts_are_read.ensures c.args.text.now c.found.result c.found.ensures
 
 pub returns-clause-within : goal.returns-clause-within
-returns-clause-within c = within_found c.args.text.now c.found.result c.found.ensures
+returns-clause-within c = within_found c.texts_are_read.ensures c.args.text.now c.found.result c.found.ensures
 
 pub returns-clause-names : goal.returns-clause-names
-returns-clause-names c = names_found c.args.text.now c.found.result c.found.ensures
+returns-clause-names c = names_found c.texts_are_read.ensures c.args.text.now c.found.result c.found.ensures
 
 pub returns-clause-arguments : goal.returns-clause-arguments
-returns-clause-arguments c = arguments_found c.args.text.now c.found.result c.requires c.found.ensures
+returns-clause-arguments c = arguments_found c.texts_are_read.ensures c.args.text.now c.found.result c.requires c.found.ensures

@@ -6,8 +6,8 @@ use Rattle.mt_click.proofs.resolving.resolved.Given as goal
 
 abbrev pub invariant-loop-rest : goal.invariant-loop-rest
 invariant-loop-rest l = record {
-  moments : l.out.items ++ moments_from (names l.known) l.scope l.waiting.items l.before l.rest ≡ moments_from (names l.known) outside [] None l.parts;
-  bound : l.scope.known + length l.rest ≤ length l.parts;
+  moments : l.out.items ++ moments_from (names l.known) l.scope l.waiting.items l.before l.rest ≡ moments_from (names l.known) outside [] None l.phrases;
+  bound : l.scope.known + length l.rest ≤ length l.phrases;
 }
 
 abbrev pub decreases-loop-rest : goal.decreases-loop-rest

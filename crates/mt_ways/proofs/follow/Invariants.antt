@@ -1,5 +1,0 @@
-use Rattle.mt_ways.proofs.Searches.{IsFollowing}
-use Rattle.mt_ways.proofs.follow.Given as goal
-
-abbrev pub invariant-loop-target : goal.invariant-loop-target
-invariant-loop-target l = IsFollowing l.graph l.mark l.at l.node l.target-index l.seen.items l.order.items l.initial.seen.items l.initial.order.items
