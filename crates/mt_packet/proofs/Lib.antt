@@ -13,4 +13,11 @@ pub mod Kept
 pub mod Reading
 pub mod After
 pub mod Judged
+pub mod Spots
+pub mod Mends
+pub mod Forms
+pub mod Orders
+pub mod PacketWrites
+pub mod Settled
+pub mod Settles
 pub mod Rows

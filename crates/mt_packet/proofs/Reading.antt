@@ -272,7 +272,7 @@ dscp-read d v w =
     let q : get_or (with_dscp d v) 1 0 / 4 ≡ v = omega arith in
     cc
 
-dscp-low : (d : List ℕ) (v : ℕ) → IsValidIpv4 d → get_or (with_dscp d v) 1 0 % 4 ≡ get_or d 1 0 % 4
+pub dscp-low : (d : List ℕ) (v : ℕ) → IsValidIpv4 d → get_or (with_dscp d v) 1 0 % 4 ≡ get_or d 1 0 % 4
 dscp-low d v w = let b = dscp-byte d v w in omega arith
 
 pub dscp-fields : (device : ℕ) (frame after d : List ℕ) (v paint annotation : ℕ) → SameEthernet frame after → IsValidIpv4 d
@@ -295,7 +295,7 @@ dscp-fields device frame after d v paint annotation same w =
     cc
 
 -- after a write of an address
-address-inner : (d : List ℕ) (p v i : ℕ) → 10 ≤ p → i ≢ 10 → i ≢ 11 → i ≢ checksum_offset d → i ≢ checksum_offset d + 1
+pub address-inner : (d : List ℕ) (p v i : ℕ) → 10 ≤ p → i ≢ 10 → i ≢ 11 → i ≢ checksum_offset d → i ≢ checksum_offset d + 1
     → get_or (with_address d p v) i 0 ≡ get_or (put_four d p v) i 0
 unfolding with_address
 address-inner d p v i far t u k l =
@@ -384,7 +384,7 @@ port-inner d p v i far k l =
     let l' : i ≢ checksum_offset (put_two d p v) + 1 = rw same l in
     transport-apart (put_two d p v) _ _ i k' l'
 
-port-value : (d : List ℕ) (at v : ℕ) → IsValidIpv4 d → has_ports d ≡ true → at ≤ 2 → v ≤ 65535
+pub port-value : (d : List ℕ) (at v : ℕ) → IsValidIpv4 d → has_ports d ≡ true → at ≤ 2 → v ≤ 65535
     → two_bytes_at (with_port d (header_length d + at) v) (header_length d + at) ≡ v
 port-value d at v w h low small =
     let least = w.header_is_long_enough in

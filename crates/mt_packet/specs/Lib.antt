@@ -5,3 +5,4 @@ pub mod Header
 pub mod Ipv4
 pub mod Packet
 pub mod Write
+pub mod WriteLaws

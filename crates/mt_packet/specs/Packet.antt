@@ -1,9 +1,9 @@
 -- A packet on its way through a chain.
-use Rattle.std.specs.Prelude.{ℕ, ◌≤◌, List, [], ◌∷◌, ◌++◌, length, take, drop, slice_set, Bool, true, false, IsTrue, if◌then◌else◌}
-use Rattle.mt_packet.specs.Field.{arp_op_of}
-use Rattle.mt_packet.specs.Header.{fields_of, greatest_of, number_of}
-use Rattle.mt_packet.specs.Ipv4.{total_length, dst_of, has_ports, IsValidIpv4}
-use Rattle.mt_packet.specs.Write.{put_two, put_six, with_header_zero, with_tcp_zero, ipv4_with_field}
+use Rattle.std.specs.Prelude.{◌≡◌, ℕ, ◌≤◌, List, [], ◌∷◌, ◌++◌, length, take, drop, slice_set, Bool, true, false, IsTrue, if◌then◌else◌}
+use Rattle.mt_packet.specs.Field.{two_bytes_at, arp_op_of}
+use Rattle.mt_packet.specs.Header.{AreBytes, fields_of, greatest_of, number_of}
+use Rattle.mt_packet.specs.Ipv4.{total_length, proto_of, dst_of, has_ports, IsValidIpv4}
+use Rattle.mt_packet.specs.Write.{put_two, put_six, checksum_offset, with_header_zero, with_tcp_zero, ipv4_with_field}
 use Rattle.mt_packet.specs.declared.field.Field.{Field}
 use Rattle.mt_packet.specs.declared.field.Field.TheVariants.{EthType, EthDst, EthSrc, Src, Dst, Dscp, Sport, Dport, Ttl, Paint, Annotation}
 use Rattle.mt_packet.specs.declared.layer.Layer.{Layer}
@@ -130,6 +130,25 @@ pub record HasEthernet (packet : PacketState) : Type 0 where
 pub record HasPorts (packet : PacketState) : Type 0 where
   pub is_checked : IsChecked packet
   pub are_visible : IsTrue (has_ports (datagram_of packet))
+
+-- the header checksum (RFC 791) is written 0 to 65534, as a check and a write leave it
+abbrev pub HasWrittenHeader : PacketState → Type 0
+HasWrittenHeader packet = two_bytes_at (datagram_of packet) 10 ≤ 65534
+
+-- so is the checksum of TCP (RFC 9293), where ports are visible. In UDP (RFC 768) every checksum has its
+-- written form: 0 tells that there is none and stays, and a write leaves no other 0
+abbrev pub HasWrittenTransport : PacketState → Type 0
+HasWrittenTransport packet =
+    has_ports (datagram_of packet) ≡ true → proto_of (datagram_of packet) ≡ 6
+    → two_bytes_at (datagram_of packet) (checksum_offset (datagram_of packet)) ≤ 65534
+
+-- a checked packet whose checksums have their written form, and whose items are bytes, as those of each
+-- packet of a program are
+pub record HasWrittenSums (packet : PacketState) : Type 0 where
+  pub is_checked : IsChecked packet
+  pub are_bytes : AreBytes packet.bytes
+  pub header_is_written : HasWrittenHeader packet
+  pub transport_is_written : HasWrittenTransport packet
 
 -- when a field may be written with a value: it can be written at all, the packet has it, the value is
 -- one of the field's that is not its absent one, and a packet was checked before a field of IPv4 is written

@@ -1,9 +1,45 @@
-//! Laws of the transport checksum. The contract of each function is the law; its body shows the two
-//! ways to the same number.
+//! Laws of writes and of checksums. The contract of each function is the law.
 ghost use Rattle.std.specs.Prelude.{◌≡◌, ◌+◌, ◌%◌, ◌++◌};
-ghost use Rattle.mt_packet.specs.Checksum.{checksum_after_write, transport_after_write};
+ghost use Rattle.mt_packet.specs.Checksum.{checksum_after_write, transport_after_write, udp_after_write};
+ghost use Rattle.mt_packet.specs.WriteLaws.{WritesStayAllowed, LastWriteWins, WritesCommute, SameWriteKeeps, WrittenSumsSettle, CheckSettles, WriteSettles};
 
 use crate::checksum::{l4_delta, transport_delta};
+
+/// A field that can be written can be written after every other write.
+pub fn writes_stay_allowed()
+    ensures { WritesStayAllowed }
+{}
+
+/// The last write of a field wins.
+pub fn last_write_wins()
+    ensures { LastWriteWins }
+{}
+
+/// Writes of two fields give the same packet in either order.
+pub fn writes_commute()
+    ensures { WritesCommute }
+{}
+
+/// A write of the value that the field has changes nothing, exactly where the checksums that it mends have
+/// their written form.
+pub fn same_write_keeps()
+    ensures { SameWriteKeeps }
+{}
+
+/// Checksums in their written form are so for every field.
+pub fn written_sums_settle()
+    ensures { WrittenSumsSettle }
+{}
+
+/// A check gives checksums their written form, at every layer.
+pub fn check_settles()
+    ensures { CheckSettles }
+{}
+
+/// Every write keeps the written form of checksums.
+pub fn write_settles()
+    ensures { WriteSettles }
+{}
 
 /// Two writes, one after the other, leave the checksum that one write of both leaves, in TCP and in
 /// UDP.
