@@ -1,13 +1,13 @@
 -- Each write of a field of IPv4 as bytes that are set with the checksums mended.
-use Rattle.std.proofs.Common.{◌≡◌, ◌≢◌, ◌∙◌, sym, ap, refl, ℕ, ◌+◌, ◌*◌, ◌/◌, ◌%◌, ◌<◌, ◌≤◌, List, [], ◌∷◌, length, get_or, set, take, sum, Bool, true, false, cond, eqb, ◌&&◌, arith}
+use Rattle.std.proofs.Common.{◌≡◌, ◌∙◌, ap, refl, ℕ, ◌+◌, ◌*◌, ◌/◌, ◌%◌, ◌<◌, ◌≤◌, List, [], ◌∷◌, length, get_or, set, take, sum, Bool, true, false, cond, eqb, arith}
 use Rattle.mt_packet.proofs.Mends.{Context, Change, Clear, mend_header, mend_transport, perform}
 use Rattle.mt_packet.proofs.Puts.{checksum_within}
 use Rattle.mt_packet.proofs.Shape.{SameShape, SameShape-set, SameShape-put_two, SameShape-put_four, SameShape-trans, SameShape-header_checksum, same-header_length, same-ports, same-proto, same-offset}
-use Rattle.mt_packet.proofs.Spots.{Spot, low, high, offset_of, sets, clear}
-use Rattle.mt_packet.specs.Checksum.{words_of, negative_of, transport_after_write}
+use Rattle.mt_packet.proofs.Spots.{low, high, clear}
+use Rattle.mt_packet.specs.Checksum.{words_of, negative_of}
 use Rattle.mt_packet.specs.Field.{two_bytes_at}
 use Rattle.mt_packet.specs.Ipv4.{IsValidIpv4, header_length, has_ports, proto_of}
-use Rattle.mt_packet.specs.Write.{put_two, put_four, checksum_offset, with_header_checksum, with_transport_checksum, with_address, with_port, with_dscp, with_ttl}
+use Rattle.mt_packet.specs.Write.{put_two, put_four, with_header_checksum, with_transport_checksum, with_address, with_port, with_dscp, with_ttl}
 
 -- what a write looks up in a datagram
 abbrev pub context : List ℕ → Context

@@ -1,14 +1,14 @@
 -- Two writes of fields of IPv4: of one field, of two fields, and of the value that is there.
-use Rattle.std.proofs.Common.{◌≡◌, ◌≢◌, ◌∙◌, sym, ap, subst, refl, ℕ, ◌+◌, ◌*◌, ◌/◌, ◌%◌, ◌<◌, ◌≤◌, List, [], ◌∷◌, length, get_or, set, take, sum, Bool, true, false, cond, eqb, ◌&&◌, arith}
+use Rattle.std.proofs.Common.{◌≡◌, ◌≢◌, ◌∙◌, sym, ap, subst, refl, ℕ, ◌+◌, ◌*◌, ◌/◌, ◌%◌, ◌≤◌, List, [], ◌∷◌, length, get_or, set, true, false, eqb, ◌&&◌, arith}
 use Rattle.std.proofs.lemmas.List.{length-set}
 use Rattle.mt_packet.proofs.Forms.{Part, source, destination, code_point, life, source_port, destination_port, context, same-context, written, change, form, by_distance, change-clear, within-ports}
-use Rattle.mt_packet.proofs.Mends.{Context, Change, Clear, Over, perform, sum_bytes, far_bytes, perform-at, perform-exchanged, perform-over, perform-same}
+use Rattle.mt_packet.proofs.Mends.{Change, Over, perform, sum_bytes, far_bytes, perform-at, perform-exchanged, perform-over}
 use Rattle.mt_packet.proofs.Puts.{two-put, put_two-apart}
 use Rattle.mt_packet.proofs.Reading.{address-inner, port-value, dscp-low, offset-beyond}
-use Rattle.mt_packet.proofs.Shape.{SameShape, SameShape-put_four, SameShape-put_two, same-header_length}
-use Rattle.mt_packet.proofs.Spots.{Spot, low, high, offset_of, sets, clear, disjoint, beyond, left, right}
+use Rattle.mt_packet.proofs.Shape.{SameShape}
+use Rattle.mt_packet.proofs.Spots.{Spot, low, high, offset_of, clear, disjoint, beyond, left, right}
 use Rattle.mt_packet.proofs.Valid.{valid-address, valid-port, valid-ttl, valid-dscp, shape-address, shape-port, shape-ttl, shape-dscp}
-use Rattle.mt_packet.specs.Field.{two_bytes_at, four_bytes_at}
+use Rattle.mt_packet.specs.Field.{two_bytes_at}
 use Rattle.mt_packet.specs.Ipv4.{IsValidIpv4, header_length, has_ports, proto_of}
 use Rattle.mt_packet.specs.Write.{put_two, put_four, with_address, with_port}
 
@@ -210,7 +210,14 @@ over-change d destination v w valid a =
 over-change d code_point v w valid a =
     record {
       same_bytes = ap (λ n. (low 1, w * 4 + n) ∷ []) (dscp-low d v valid);
-      renewed = refl; header_u = refl; header_w = refl; transport_u = refl; transport_w = refl; same_new = refl; same_old = refl; replaced = refl;
+      renewed = refl;
+      header_u = refl;
+      header_w = refl;
+      transport_u = refl;
+      transport_w = refl;
+      same_new = refl;
+      same_old = refl;
+      replaced = refl;
     }
 over-change d life v w valid a =
     record { same_bytes = refl; renewed = refl; header_u = refl; header_w = refl; transport_u = refl; transport_w = refl; same_new = refl; same_old = refl; replaced = refl }

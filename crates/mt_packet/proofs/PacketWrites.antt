@@ -1,17 +1,14 @@
 -- Writes of packets: of one field, and of two, at every layer.
-use Rattle.std.proofs.Common.{◌≡◌, ◌≢◌, ◌∙◌, sym, ap, subst, refl, ℕ, ◌+◌, ◌/◌, ◌%◌, ◌<◌, ◌≤◌, List, [], ◌∷◌, ◌++◌, length, length-append, get_or, set, take, drop, Bool, true, false, IsTrue, ltb, if◌then◌else◌, arith}
+use Rattle.std.proofs.Common.{◌≡◌, ◌≢◌, ◌∙◌, sym, ap, subst, refl, ℕ, ◌+◌, ◌/◌, ◌%◌, ◌<◌, ◌≤◌, List, [], ◌∷◌, ◌++◌, length, length-append, set, take, drop, Bool, true, false, ltb, if◌then◌else◌, arith}
 use Rattle.std.proofs.Math.Seq.{take-set-lt}
 use Rattle.std.proofs.lemmas.Bool.Decides.{nat_tests}
 use Rattle.std.proofs.lemmas.List.{length-drop, length-take, length-set, set-append_left, drop-set-lt, take-append-le, take_all}
 use Rattle.mt_packet.proofs.Forms.{Part, source, destination, code_point, life, source_port, destination_port, written}
 use Rattle.mt_packet.proofs.Kept.{datagram_of-with, with_field-kept}
-use Rattle.mt_packet.proofs.Orders.{Allowed, written-over, written-exchanged, written-valid, written-shape}
-use Rattle.mt_packet.proofs.Spots.{Spot, low, high, offset_of, sets, sets-sets, sets-again, sets-length}
+use Rattle.mt_packet.proofs.Orders.{Allowed, written-over, written-exchanged}
+use Rattle.mt_packet.proofs.Spots.{Spot, low, high, sets, sets-sets, sets-again, sets-length}
 use Rattle.mt_packet.proofs.Shape.{same-ports}
-use Rattle.mt_packet.proofs.Views.{behind}
-use Rattle.mt_packet.specs.Ipv4.{IsValidIpv4, has_ports}
-use Rattle.mt_packet.specs.Packet.{PacketState, has_ethernet, datagram_of, with_datagram, with_field, CanWrite, IsChecked, HasEthernet, HasPorts}
-use Rattle.mt_packet.specs.Write.{put_two, put_six}
+use Rattle.mt_packet.specs.Packet.{PacketState, has_ethernet, datagram_of, with_datagram, with_field, CanWrite, IsChecked, HasEthernet}
 use Rattle.mt_packet.specs.WriteLaws.{LastWriteWins, WritesCommute, WritesStayAllowed}
 use Rattle.mt_packet.specs.declared.field.Field.{Field}
 use Rattle.mt_packet.specs.declared.field.Field.TheVariants.{Device, EthType, EthDst, EthSrc, ArpOp, Proto, Src, Dst, Dscp, Ecn, Sport, Dport, IcmpType, IpOk, Ports, Mf, FragOff, Ttl, Syn, Ack, Fin, Rst, Paint, Annotation}

@@ -1,24 +1,23 @@
 -- A write of the value that is there changes nothing exactly where the checksums have their written form.
-use Rattle.std.proofs.Common.{◌≡◌, ◌≢◌, ◌∙◌, ◌↔◌, sym, ap, subst, refl, ℕ, ◌+◌, ◌*◌, ◌/◌, ◌%◌, ◌<◌, ◌≤◌, List, [], ◌∷◌, ◌++◌, length, get_or, set, take, drop, sum, Bool, true, false, cond, eqb, nat_lt, ◌&&◌, IsTrue, if◌then◌else◌, inl, inr, arith}
+use Rattle.std.proofs.Common.{◌≡◌, ◌∙◌, ◌↔◌, sym, ap, refl, ℕ, ◌+◌, ◌*◌, ◌/◌, ◌%◌, ◌≤◌, List, [], ◌++◌, length, get_or, take, drop, sum, Bool, true, false, eqb, nat_lt, ◌&&◌, if◌then◌else◌, inl, inr, arith}
 use Rattle.std.proofs.lemmas.Bool.Decides.{nat_tests}
 use Rattle.std.proofs.lemmas.List.{take-append-drop}
 use Rattle.mt_packet.proofs.Forms.{Part, source, destination, code_point, life, source_port, destination_port, context, written, change, form, change-clear, within-ports}
 use Rattle.mt_packet.proofs.Kept.{datagram_of-with}
-use Rattle.mt_packet.proofs.Mends.{Change, perform, perform-same, sum_of, header-after, transport-after}
-use Rattle.mt_packet.proofs.PacketWrites.{ethernet, type, receiver, sender, part, after, side_bytes}
+use Rattle.mt_packet.proofs.Mends.{perform-same, sum_of, header-after, transport-after}
+use Rattle.mt_packet.proofs.PacketWrites.{type, receiver, sender, part, after, side_bytes}
 use Rattle.mt_packet.proofs.Puts.{message_proto, ports-cases}
 use Rattle.mt_packet.proofs.Ranges.{AreBytes-drop}
 use Rattle.mt_packet.proofs.Reading.{valid-readable}
 use Rattle.mt_packet.proofs.Right.{header_sum, header_sum-held, ones_complement-right}
-use Rattle.mt_packet.proofs.Spots.{Spot, low, high, sets, Holds, sets-same}
+use Rattle.mt_packet.proofs.Spots.{sets, Holds, sets-same}
 use Rattle.mt_packet.specs.Checksum.{words_of, negative_of, transport_after_write}
 use Rattle.mt_packet.specs.Field.{two_bytes_at, four_bytes_at, eth_type_of, eth_dst_of, eth_src_of}
-use Rattle.mt_packet.specs.Header.{AreBytes, field_of}
+use Rattle.mt_packet.specs.Header.{AreBytes}
 use Rattle.mt_packet.specs.Ipv4.{IsValidIpv4, header_length, has_ports, proto_of, src_of, dst_of, dscp_of, ttl_of, sport_of, dport_of}
-use Rattle.mt_packet.specs.Packet.{PacketState, has_ethernet, frame_of, datagram_of, with_datagram, packet_header, with_field, CanWrite, IsChecked, HasEthernet, HasWrittenHeader, HasWrittenTransport, HasWrittenSums}
+use Rattle.mt_packet.specs.Packet.{PacketState, has_ethernet, frame_of, datagram_of, with_datagram, IsChecked, HasEthernet}
 use Rattle.mt_packet.specs.Write.{put_two, checksum_offset}
-use Rattle.mt_packet.specs.WriteLaws.{SameWriteKeeps, WrittenSumsSettle, IsSettledFor}
-use Rattle.mt_packet.specs.declared.field.Field.{Field}
+use Rattle.mt_packet.specs.WriteLaws.{SameWriteKeeps, WrittenSumsSettle}
 use Rattle.mt_packet.specs.declared.field.Field.TheVariants.{Device, EthType, EthDst, EthSrc, ArpOp, Proto, Src, Dst, Dscp, Ecn, Sport, Dport, IcmpType, IpOk, Ports, Mf, FragOff, Ttl, Syn, Ack, Fin, Rst, Paint, Annotation}
 
 -- a valid checksum in its written form is the header checksum
@@ -221,9 +220,9 @@ datagram-bytes p h = by_layer (has_ethernet p.layer)
 same-after : (p : PacketState) (q : Part) (v : ℕ) → IsChecked p → AreBytes p.bytes → Read (datagram_of p) q v
     → (after p (part q) v ≡ p) ↔ PartForm (datagram_of p) q
 same-after p q v c bytes r = (
-      λ e. form-from (datagram_of p) q v c (sym (datagram_of-with p (written (datagram_of p) q v) c) ∙ ap (λ s. datagram_of s) e),
-      λ f. ap (with_datagram p) (same-part (datagram_of p) q v c (datagram-bytes p bytes) r f) ∙ with-own p,
-    )
+  λ e. form-from (datagram_of p) q v c (sym (datagram_of-with p (written (datagram_of p) q v) c) ∙ ap (λ s. datagram_of s) e),
+  λ f. ap (with_datagram p) (same-part (datagram_of p) q v c (datagram-bytes p bytes) r f) ∙ with-own p,
+)
 
 -- the values that are read in a valid datagram
 read-src : (d : List ℕ) → IsValidIpv4 d → src_of d ≡ four_bytes_at d 12

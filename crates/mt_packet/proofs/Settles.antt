@@ -1,24 +1,27 @@
 -- The written form of checksums, given by a check and kept by every write.
-use Rattle.std.proofs.Common.{◌≡◌, ◌≢◌, ◌∙◌, sym, ap, subst, refl, ℕ, ◌+◌, ◌-◌, ◌*◌, ◌/◌, ◌%◌, ◌<◌, ◌≤◌, List, [], ◌∷◌, ◌++◌, length, get_or, set, take, drop, Bool, true, false, cond, eqb, ◌&&◌, if◌then◌else◌, ◌⊎◌, inl, inr, arith}
+use Rattle.std.proofs.Common.{◌≡◌, ◌∙◌, sym, subst, refl, ℕ, ◌+◌, ◌-◌, ◌/◌, ◌%◌, ◌<◌, ◌≤◌, List, [], ◌∷◌, ◌++◌, length, get_or, set, take, drop, Bool, true, false, cond, eqb, ◌&&◌, if◌then◌else◌, ◌⊎◌, inl, inr, arith}
 use Rattle.std.proofs.Math.ListN.{get_or-append, get_or-eq_default}
 use Rattle.std.proofs.lemmas.Bool.{cases_lt, cases_eq}
 use Rattle.std.proofs.lemmas.Bool.Decides.{nat_tests}
-use Rattle.std.proofs.lemmas.Grind.{common_steps}
 use Rattle.std.proofs.lemmas.List.{get_or-set_same, get_or-set_other, get_or-take, get_or-append_right, length-set, length-take}
 use Rattle.mt_packet.proofs.Forms.{Part, source, destination, code_point, life, source_port, destination_port, context, written, change, form}
-use Rattle.mt_packet.proofs.Kept.{datagram_of-with, datagram_of-checked, checked-checked, header_zero-shape, tcp_zero-shape}
-use Rattle.mt_packet.proofs.Mends.{Change, Context, perform, mend_header, mend_transport}
+use Rattle.mt_packet.proofs.Kept.{datagram_of-with, datagram_of-checked, tcp_zero-shape}
+use Rattle.mt_packet.proofs.Mends.{Context, mend_header, mend_transport}
 use Rattle.mt_packet.proofs.Orders.{Allowed, written-valid, written-shape}
 use Rattle.mt_packet.proofs.PacketWrites.{Writable, ethernet, painted, annotated, part, Side, type, receiver, sender, side_bytes, side-datagram, field_for, which, Can, can, after, as-after}
 use Rattle.mt_packet.proofs.Puts.{put_two-apart, two-put, checksum_within}
 use Rattle.mt_packet.proofs.Settled.{HeaderForm, TransportForm, mended-header, mended-transport, datagram-bytes}
-use Rattle.mt_packet.proofs.Shape.{SameShape, same-header_length, same-ports, same-proto, same-offset}
-use Rattle.mt_packet.proofs.Spots.{Spot, low, high, offset_of, sets}
-use Rattle.mt_packet.proofs.Valid.{choose, valid-cut, valid-header_zero, valid-tcp_zero}
+use Rattle.mt_packet.proofs.Shape.{same-ports, same-proto, same-offset}
+use Rattle.mt_packet.proofs.Spots.{Spot, offset_of, sets}
+use Rattle.mt_packet.proofs.Valid.{valid-cut, valid-header_zero, valid-tcp_zero}
+use Rattle.mt_packet.proofs.Ranges.{AreBytes-drop}
+use Rattle.mt_packet.proofs.Views.{seen}
+use Rattle.mt_packet.specs.declared.layer.Layer.{Layer}
+use Rattle.std.specs.Bool.{OnTrue}
 use Rattle.mt_packet.specs.Field.{two_bytes_at}
 use Rattle.mt_packet.specs.Header.{AreBytes}
 use Rattle.mt_packet.specs.Ipv4.{IsValidIpv4, header_length, total_length, has_ports, proto_of}
-use Rattle.mt_packet.specs.Packet.{PacketState, has_ethernet, layer_checked, datagram_of, with_datagram, with_field, checked, checked_datagram, CanWrite, IsChecked, HasWrittenSums}
+use Rattle.mt_packet.specs.Packet.{PacketState, has_ethernet, datagram_of, with_datagram, with_field, checked, checked_datagram, CanWrite, IsChecked, HasWrittenSums}
 use Rattle.mt_packet.specs.Write.{put_two, checksum_offset, with_header_zero, with_tcp_zero}
 use Rattle.mt_packet.specs.WriteLaws.{CheckSettles, WriteSettles}
 use Rattle.mt_packet.specs.declared.field.Field.{Field}
@@ -239,3 +242,26 @@ check-settles p a v =
     sums-of (checked p) (checked_datagram (datagram_of p)) (datagram_of-checked p v)
     (formed-checked (datagram_of p) v (datagram-bytes p a))
     (with-bytes p (checked_datagram (datagram_of p)) a (checked-bytes (datagram_of p) (datagram-bytes p a)))
+
+-- the packet that a call leaves
+pub written-written : (p q : PacketState) (field : Field) (v : ℕ) → CanWrite p field v → q ≡ with_field p field v
+    → HasWrittenSums p → HasWrittenSums q
+written-written p q field v c e h =
+    let P : PacketState → Type 0 = λ r. HasWrittenSums r in subst P (sym e) (write-settles p field v c h)
+
+pub judged-written : (p q : PacketState) (b : Bool) → AreBytes p.bytes → (b ≡ true → IsChecked p) → q ≡ (if b then checked p else p)
+    → OnTrue b (HasWrittenSums q)
+judged-written p q true a v e =
+    let P : PacketState → Type 0 = λ r. HasWrittenSums r in subst P (sym e) (check-settles p a (v refl))
+judged-written p q false a v e = tt
+
+-- the bytes that are seen of those that are kept
+pub seen-bytes : (p : PacketState) (layer : Layer) (items : List ℕ) (paint annotation stamp device number : ℕ)
+    → seen items layer paint annotation stamp device number ≡ p → AreBytes items → AreBytes p.bytes
+seen-bytes p layer items paint annotation stamp device number is a =
+    let P : PacketState → Type 0 = λ r. AreBytes r.bytes in
+    subst P is (by_layer (has_ethernet layer))
+  where
+    by_layer : (b : Bool) → AreBytes (if b then items else drop 14 items)
+    by_layer true = a
+    by_layer false = AreBytes-drop items 14 a

@@ -1,5 +1,5 @@
 -- Sums of words, and their ones' complement numbers.
-use Rattle.std.proofs.Common.{◌≡◌, ◌∙◌, sym, ap, ℕ, ◌+◌, ◌%◌, ◌≤◌, List, [], ◌∷◌, ◌++◌, length, drop, sum, fold, zero-add, arith}
+use Rattle.std.proofs.Common.{◌≡◌, ◌∙◌, sym, ap, ℕ, ◌+◌, ◌%◌, ◌≤◌, List, [], ◌∷◌, ◌++◌, ◌<◌, length, drop, sum, fold, false, zero-add, if◌then◌else◌, ◌==◌, arith}
 use Rattle.std.proofs.lemmas.Bool.Decides.{nat_tests}
 use Rattle.std.proofs.lemmas.List.{drop_all}
 use Rattle.std.proofs.lemmas.List.Sums.{fold-append}
@@ -52,3 +52,16 @@ written-twice protocol c o1 n1 o2 n2 =
     let plain = twice c (sum o1) (sum n1) (sum o2) (sum n2) in
     let full = twice-full c (sum o1) (sum n1) (sum o2) (sum n2) in
     grind (arith, nat_tests)
+
+-- an error in a UDP checksum stays
+udp-rest : (c e o n : ℕ) → 0 < c
+    → (if (ones_complement (c + e) + o + negative_of n) % 65535 == 0 then 65535 else (ones_complement (c + e) + o + negative_of n) % 65535)
+    ≡ ones_complement ((if (c + o + negative_of n) % 65535 == 0 then 65535 else (c + o + negative_of n) % 65535) + e)
+udp-rest c e o n some = grind (arith, nat_tests)
+
+pub udp_error : (c e : ℕ) (old new : List ℕ) → 0 < c
+    → transport_after_write 17 (ones_complement (c + e)) old new ≡ ones_complement (transport_after_write 17 c old new + e)
+udp_error c e old new some =
+    let here : (c == 0) ≡ false = grind (arith, nat_tests) in
+    let there : (ones_complement (c + e) == 0) ≡ false = grind (arith, nat_tests) in
+    rw (here, there) (udp-rest c e (sum old) (sum new) some)

@@ -23,7 +23,7 @@ pub fn ip_sum(bytes: &[u8]) -> u16
 
 /// The sum of two words, with what is past 16 bits carried round to the low end.
 #[tactic(auto, using(std::proofs::lemmas::Bool::Decides::nat_tests))]
-fn with_carry(total: u16, word: u16) -> u16
+pub(crate) fn with_carry(total: u16, word: u16) -> u16
     ensures { result ≡ ones_complement (total + word) }
 {
     let plain = u32::from(total) + u32::from(word);

@@ -1,9 +1,9 @@
 //! Laws of writes and of checksums. The contract of each function is the law.
-ghost use Rattle.std.specs.Prelude.{◌≡◌, ◌+◌, ◌%◌, ◌++◌};
-ghost use Rattle.mt_packet.specs.Checksum.{checksum_after_write, transport_after_write, udp_after_write};
+ghost use Rattle.std.specs.Prelude.{◌≡◌, ◌+◌, ◌%◌, ◌<◌, ◌++◌};
+ghost use Rattle.mt_packet.specs.Checksum.{ones_complement, checksum_after_write, transport_after_write};
 ghost use Rattle.mt_packet.specs.WriteLaws.{WritesStayAllowed, LastWriteWins, WritesCommute, SameWriteKeeps, WrittenSumsSettle, CheckSettles, WriteSettles};
 
-use crate::checksum::{l4_delta, transport_delta};
+use crate::checksum::{l4_delta, transport_delta, with_carry};
 
 /// A field that can be written can be written after every other write.
 pub fn writes_stay_allowed()
@@ -59,10 +59,21 @@ pub fn after_two_writes(
     transport_delta(protocol, between, second_old, second_new)
 }
 
-/// An error in a checksum stays the same error through a write.
+/// An error in a TCP checksum stays the same error through a write.
 pub fn with_error(field: u16, error: u16, old: &[u16], new: &[u16]) -> u16
     ensures { result ≡ (checksum_after_write field old.now new.now + error) % 65535 }
 {
     let wrong = (u32::from(field) + u32::from(error)) % 65_535;
     l4_delta(wrong as u16, old, new)
+}
+
+/// An error in a UDP checksum stays the same error through a write, where there is a checksum. Both are
+/// written 1 to 65,535.
+#[tactic(auto, using(crate::proofs::Sums::udp_error))]
+pub fn with_udp_error(field: u16, error: u16, old: &[u16], new: &[u16]) -> u16
+    requires { 0 < field }
+    ensures { result ≡ ones_complement (transport_after_write 17 field old.now new.now + error) }
+{
+    let wrong = with_carry(field, error);
+    transport_delta(17, wrong, old, new)
 }

@@ -1,9 +1,9 @@
 //! A packet on its way through a chain.
 ghost use Rattle.std.specs.Prelude.{◌≡◌, ◌⊎◌, ◌+◌, ◌^◌, ◌<◌, ◌≤◌, ◌↔◌, ◌++◌, length, take, drop, slice_set, true, IsTrue, if◌then◌else◌};
 ghost use Rattle.mt_packet.specs.Flow.{packet_flow};
-ghost use Rattle.mt_packet.specs.Header.{field_of, fields_of, greatest_of, InRanges};
+ghost use Rattle.mt_packet.specs.Header.{AreBytes, field_of, fields_of, greatest_of, InRanges};
 ghost use Rattle.mt_packet.specs.Ipv4.{IsValidIpv4, header_length, dst_of, has_ports};
-ghost use Rattle.mt_packet.specs.Packet.{PacketState, has_ethernet, frame_of, datagram_of, packet_header, header_after, arrived, stripped, encapsulated, ethernet_header, checked, checked_datagram, layer_checked, with_field, CanWrite, IsChecked, HasEthernet};
+ghost use Rattle.mt_packet.specs.Packet.{PacketState, has_ethernet, frame_of, datagram_of, packet_header, header_after, arrived, stripped, encapsulated, ethernet_header, checked, checked_datagram, layer_checked, with_field, CanWrite, IsChecked, HasEthernet, HasWrittenSums};
 ghost use Rattle.std.specs.Bool.{OnTrue};
 ghost use Rattle.mt_packet.specs.Write.{with_address, with_dscp, with_ttl, with_port, with_header_zero, with_tcp_zero};
 
@@ -138,6 +138,7 @@ impl Packet {
         ensures written { self.new ≡ with_field self.old field value }
         ensures header { packet_header self.new ≡ header_after self.old field value }
         ensures still_checked { IsChecked self.old → IsChecked self.new }
+        ensures still_written { HasWrittenSums self.old → HasWrittenSums self.new }
         ensures same_ports { has_ports (datagram_of self.new) ≡ has_ports (datagram_of self.old) }
         ensures counted { writes.new ≡ writes.old + 1 }
     {
@@ -155,8 +156,10 @@ impl Packet {
             ≡ (if result then slice_set (packet_header self.old) 23 (dst_of (datagram_of self.old))
             else packet_header self.old) }
         ensures checked { OnTrue result (IsChecked self.new) }
+        ensures written { OnTrue result (HasWrittenSums self.new) }
         ensures same_ports { has_ports (datagram_of self.new) ≡ has_ports (datagram_of self.old) }
     {
+        are_bytes(&self.bytes);
         self.check()
     }
 
@@ -321,6 +324,13 @@ fn write_ethernet(bytes: &mut [u8], ether_type: u16, src: u64, dst: u64)
     write_six(bytes, 0, dst);
     write_six(bytes, 6, src);
     write_two(bytes, 12, ether_type);
+}
+
+/// Bytes are numbers below 256: a fact for proofs, with nothing to run.
+fn are_bytes(bytes: &[u8])
+    ensures { AreBytes bytes.now }
+{
+    let _ = bytes;
 }
 
 /// The layer of a packet that has been found to be IPv4.
