@@ -2,7 +2,7 @@
 -- the first of equal ones.
 use Rattle.std.specs.Prelude.{◌≡◌, ℕ, ◌<◌, ◌≤◌, Bool, true, false, ◌&&◌, nat_lt, if◌then◌else◌, List, fold, slice_get, Option, Some, None}
 use Rattle.mt_pattern.specs.Meaning.{contains_number}
-use Rattle.mt_pattern.specs.Number.{prefix_span}
+use Rattle.mt_pattern.specs.Span.{prefix_span}
 use Rattle.mt_elements.specs.declared.hop.Hop.{Hop}
 
 -- the address is in the prefix of a line: both agree in its high bits

@@ -5,7 +5,7 @@ ghost use Rattle.mt_chain.specs.Route.{is_in, is_longer, better, route_of, IsRou
 use mt_elements::Hop;
 
 /// Whether an address is in the prefix of a line.
-#[tactic(auto, unfolding(crate::specs::Route::is_in, mt_pattern::specs::Number::prefix_span))]
+#[tactic(auto, unfolding(crate::specs::Route::is_in, mt_pattern::specs::Span::prefix_span))]
 fn is_in(address: u64, hop: &Hop) -> bool
     ensures { result ≡ is_in address hop.now }
 {

@@ -6,7 +6,7 @@ use Rattle.std.proofs.lemmas.Bool.{eqb-true, eq-eqb}
 use Rattle.std.proofs.lemmas.Bool.Decides.{nat_tests}
 use Rattle.std.proofs.lemmas.List.Elements.{All-nil, All-cons}
 use Rattle.std.proofs.lemmas.List.Splits.{slice_split_at, slice_split_none}
-use Rattle.mt_pattern.specs.Number.{place_of}
+use Rattle.mt_lists.specs.Cuts.{index_of}
 use Rattle.mt_elements.specs.Patterns.{words_of}
 use Rattle.mt_elements.specs.Written.{HasNo}
 
@@ -44,13 +44,13 @@ within_joined : (byte : ℕ) (front rest : List ℕ) → length front < length (
 within_joined byte [] rest = omega arith
 within_joined byte (x ∷ front) rest = let h = within_joined byte front rest in omega (arith, h)
 
-pub place_in : (byte : ℕ) (front rest : List ℕ) → HasNo byte front → place_of byte (front ++ byte ∷ rest) ≡ Some (length front)
+pub place_in : (byte : ℕ) (front rest : List ℕ) → HasNo byte front → index_of byte (front ++ byte ∷ rest) ≡ Some (length front)
 place_in byte front rest none =
     let first = first_in byte front rest none in
     let within = within_joined byte front rest in
     grind (arith, nat_tests)
 
-pub no_place : (byte : ℕ) (text : List ℕ) → HasNo byte text → place_of byte text ≡ None
+pub no_place : (byte : ℕ) (text : List ℕ) → HasNo byte text → index_of byte text ≡ None
 no_place byte text none =
     let nowhere = nowhere_in byte text none in
     grind (arith, nat_tests)

@@ -5,7 +5,8 @@ use Rattle.std.specs.List.{list_all}
 use Rattle.std.specs.Str.{bytes_eq}
 use Rattle.std.proofs.lemmas.Option.{option_and_then_some, cond_some, same_Some, none-some}
 use Rattle.std.proofs.lemmas.Bool.Decides.{nat_tests}
-use Rattle.mt_pattern.specs.Number.{number_of, number_up_to, address_of}
+use Rattle.mt_text.specs.Number.{number_of, number_up_to}
+use Rattle.mt_text.specs.Address.{ipv4_address_of}
 use Rattle.mt_elements.specs.declared.kind.Kind.{Kind}
 use Rattle.mt_elements.specs.declared.kind.Kind.TheVariants.{FromDevice, ToDevice, Classifier, Discard, Null, Counter, Queue, Paint, PaintSwitch, EtherMirror, Strip, CheckIPHeader, EtherEncap, DecIPTTL, SetIPDSCP, StoreIPAddress, GetIPAddress, IPMirror, IPFilter, IPClassifier, Route}
 use Rattle.mt_elements.specs.Middle.{IsMiddle}
@@ -124,7 +125,7 @@ unfolding store_of
 of_store [] kind is = absurd cc
 of_store (a ∷ []) kind is = absurd cc
 of_store (a ∷ b ∷ []) kind is =
-    option_and_then_some _ (address_of a) kind is (λ address _ h.
+    option_and_then_some _ (ipv4_address_of a) kind is (λ address _ h.
     option_and_then_some _ (end_of b) kind h (λ which _ j. as_told (StoreIPAddress address which) kind j tt))
 of_store (a ∷ b ∷ c ∷ more) kind is = absurd cc
 

@@ -1,7 +1,8 @@
 -- The definitions on arguments and texts that were read by hand.
 use Rattle.std.proofs.Common.{◌≡◌, [], ◌∷◌, Some, None, true, false, refl}
 use Rattle.std.specs.Prelude.{codes}
-use Rattle.mt_pattern.specs.Number.{decimal_value, hexadecimal_value, decimal_of, hexadecimal_of, number_of, number_up_to, decimal_up_to, address_of}
+use Rattle.mt_text.specs.Number.{decimal_value, hexadecimal_value, decimal_of, hexadecimal_of, number_of, number_up_to, decimal_up_to}
+use Rattle.mt_text.specs.Address.{ipv4_address_of}
 use Rattle.mt_syntax.specs.Comment.{comment_at, hidden}
 use Rattle.mt_syntax.specs.Closing.{closing}
 use Rattle.mt_syntax.specs.Piece.{word_at, digits_at, parameter_at, arguments_at, pair_at, mark_of, mark_at, plain_at, piece_at}
@@ -50,7 +51,7 @@ unfolding stateless_kind plain_kind frame_kind datagram_kind paint_of number_up_
 too_great_a_paint = refl
 
 stored : stateless_kind (codes "StoreIPAddress") (codes "198.51.100.10" ∷ codes "dst" ∷ []) ≡ Some (StoreIPAddress 3325256714 Dst)
-unfolding stateless_kind plain_kind frame_kind datagram_kind store_of address_of decimal_up_to decimal_of decimal_value end_of
+unfolding stateless_kind plain_kind frame_kind datagram_kind store_of ipv4_address_of decimal_up_to decimal_of decimal_value end_of
 stored = refl
 
 -- a packet that was not checked has no time to live

@@ -5,7 +5,7 @@ use Rattle.std.specs.Str.{bytes_eq}
 use Rattle.std.proofs.lemmas.Bool.Decides.{nat_tests}
 use Rattle.std.proofs.lemmas.Slice.Eq.{bytes_eq-Decides}
 use Rattle.std.proofs.lemmas.List.{take_at}
-use Rattle.mt_pattern.specs.Number.{◌>>=◌}
+use Rattle.mt_lists.specs.Options.{◌>>=◌}
 use Rattle.mt_syntax.specs.Tokens.{tokens_in}
 use Rattle.mt_syntax.specs.declared.token.Kind.{Kind}
 use Rattle.mt_syntax.specs.declared.token.Kind.TheVariants as kinds

@@ -1,7 +1,7 @@
 -- Reading a line of uses, one more at a time.
 use Rattle.std.proofs.Common.{◌≡◌, ℕ, suc, ◌+◌, ◌-◌, ◌<◌, ◌≤◌, true, false, List, [], ◌∷◌, ◌++◌, sym, ap, ◌∙◌, arith}
 use Rattle.std.specs.Prelude.{Option, Some, None, option_map, if◌then◌else◌}
-use Rattle.mt_pattern.specs.Number.{◌>>=◌}
+use Rattle.mt_lists.specs.Options.{◌>>=◌}
 use Rattle.mt_syntax.specs.declared.token.Token.{Token}
 use Rattle.mt_syntax.specs.declared.part.Use.{Use}
 use Rattle.mt_elements.specs.declared.reading.Sign.TheVariants as signs

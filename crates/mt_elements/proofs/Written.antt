@@ -2,7 +2,9 @@
 use Rattle.std.proofs.Common.{◌≡◌, ◌∙◌, sym, ap, subst, ℕ, ◌+◌, List, ◌∷◌, ◌++◌, length, drop}
 use Rattle.std.specs.Prelude.{◌↔◌, Option, Some, None, Result, Ok, Err}
 use Rattle.std.proofs.lemmas.Option.{option_and_then_some, same_Some, none-some}
-use Rattle.mt_pattern.specs.Number.{number_up_to, decimal_up_to, address_of, ◌>>=◌}
+use Rattle.mt_lists.specs.Options.{◌>>=◌}
+use Rattle.mt_text.specs.Number.{number_up_to, decimal_up_to}
+use Rattle.mt_text.specs.Address.{ipv4_address_of}
 use Rattle.mt_pattern.specs.Parser.{parse_of}
 use Rattle.mt_pattern.specs.declared.pattern.Pattern.{Pattern}
 use Rattle.mt_elements.specs.Filters.{action_of, if_read, ip_pattern_of, rule_at, rule_of}
@@ -73,7 +75,7 @@ rule_spelled argument rule = (λ is. rule_told argument rule (cut 32 argument) i
 -- ---- prefixes
 
 abbrev net_in : List ℕ → List ℕ → Option (ℕ × ℕ)
-net_in front rest = address_of front >>= λ address. decimal_up_to 32 rest >>= λ len. Some (address, len)
+net_in front rest = ipv4_address_of front >>= λ address. decimal_up_to 32 rest >>= λ len. Some (address, len)
 
 net_parts : (front rest : List ℕ) → HasNo 47 front → net_of (front ++ 47 ∷ rest) ≡ net_in front rest
 unfolding net_at
@@ -82,17 +84,17 @@ net_parts front rest none =
     ∙ ap (λ text. net_in text (drop (length front + 1) (front ++ 47 ∷ rest))) (before 47 front rest)
     ∙ ap (net_in front) (behind 47 front rest)
 
-net_alone : (word : List ℕ) → HasNo 47 word → net_of word ≡ (address_of word >>= λ address. Some (address, 32))
+net_alone : (word : List ℕ) → HasNo 47 word → net_of word ≡ (ipv4_address_of word >>= λ address. Some (address, 32))
 unfolding net_at
 net_alone word none = ap (net_at word) (no_place 47 word none)
 
 net_told : (word : List ℕ) (net : ℕ × ℕ) → Cut 47 word → net_of word ≡ Some net → IsNet word net.0 net.1
 net_told word net (whole none) is =
-    option_and_then_some _ (address_of word) net (sym (net_alone word none) ∙ is) (λ address found same.
+    option_and_then_some _ (ipv4_address_of word) net (sym (net_alone word none) ∙ is) (λ address found same.
     let e = same_Some (address, 32) net same in
     alone none (found ∙ ap (λ (n : ℕ × ℕ). Some n.0) e) (sym (ap (λ (n : ℕ × ℕ). n.1) e)))
 net_told word net (parts front rest spelled none) is =
-    option_and_then_some _ (address_of front) net (sym (ap net_of spelled ∙ net_parts front rest none) ∙ is) (λ address found more.
+    option_and_then_some _ (ipv4_address_of front) net (sym (ap net_of spelled ∙ net_parts front rest none) ∙ is) (λ address found more.
     option_and_then_some _ (decimal_up_to 32 rest) net more (λ len bits same.
     let e = same_Some (address, len) net same in
     of_length front rest spelled none (found ∙ ap (λ (n : ℕ × ℕ). Some n.0) e) (bits ∙ ap (λ (n : ℕ × ℕ). Some n.1) e)))
@@ -123,7 +125,7 @@ two_words net last first second =
     ap hop_in (more_words net last first ∙ ap (λ words. net ∷ words) (one_word last second))
 
 three_words : (net second last : List ℕ) → HasNo 32 net → HasNo 32 second → HasNo 32 last
-    → hop_of (net ++ 32 ∷ (second ++ 32 ∷ last)) ≡ far_hop (net_of net) (address_of second) (number_up_to 511 last)
+    → hop_of (net ++ 32 ∷ (second ++ 32 ∷ last)) ≡ far_hop (net_of net) (ipv4_address_of second) (number_up_to 511 last)
 unfolding hop_in
 three_words net second last first middle third =
     ap hop_in (more_words net (second ++ 32 ∷ last) first ∙ ap (λ words. net ∷ words) (more_words second last middle ∙ ap (λ words. second ∷ words) (one_word last third)))
@@ -148,10 +150,10 @@ told_near argument net last hop spelled first second is =
     direct net last spelled first second (subst (λ (h : Hop). IsNet net h.address h.length) e (net_told net prefix (cut 47 net) found)) (sym (ap (λ (h : Hop). h.gateway) e)) (sent ∙ ap (λ (h : Hop). Some h.out) e)))
 
 told_far : (argument net second last : List ℕ) (hop : Hop) → argument ≡ net ++ 32 ∷ (second ++ 32 ∷ last) → HasNo 32 net → HasNo 32 second → HasNo 32 last
-    → far_hop (net_of net) (address_of second) (number_up_to 511 last) ≡ Some hop → IsHop argument hop
+    → far_hop (net_of net) (ipv4_address_of second) (number_up_to 511 last) ≡ Some hop → IsHop argument hop
 told_far argument net second last hop spelled first middle third is =
     option_and_then_some _ (net_of net) hop is (λ prefix found rest.
-    option_and_then_some _ (address_of second) hop rest (λ gateway next more.
+    option_and_then_some _ (ipv4_address_of second) hop rest (λ gateway next more.
     option_and_then_some _ (number_up_to 511 last) hop more (λ out sent same.
     let e = same_Some (made_hop prefix (Some gateway) out) hop same in
     by_gateway net second last gateway spelled first middle third (subst (λ (h : Hop). IsNet net h.address h.length) e (net_told net prefix (cut 47 net) found)) next (sym (ap (λ (h : Hop). h.gateway) e))
@@ -184,7 +186,7 @@ hop_read argument hop (direct net last spelled first second prefix near out) =
 hop_read argument hop (by_gateway net second last gateway spelled first middle third prefix found far out) =
     ap hop_of spelled
     ∙ three_words net second last first middle third
-    ∙ ap (λ n. far_hop n (address_of second) (number_up_to 511 last)) (net_read net hop.address hop.length prefix)
+    ∙ ap (λ n. far_hop n (ipv4_address_of second) (number_up_to 511 last)) (net_read net hop.address hop.length prefix)
     ∙ ap (λ g. far_hop (Some (hop.address, hop.length)) g (number_up_to 511 last)) found
     ∙ ap (far_hop (Some (hop.address, hop.length)) (Some gateway)) out
     ∙ ap Some (as_made hop (Some gateway) far)

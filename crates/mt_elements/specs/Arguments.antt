@@ -3,7 +3,7 @@
 use Rattle.std.specs.Prelude.{ℕ, ◌+◌, ◌-◌, ◌*◌, Bool, false, ◌&&◌, ◌||◌, ◌==◌, nat_le, if◌then◌else◌, List, [], ◌∷◌, length, slice_index, fold, codes, Option, Some, None}
 use Rattle.std.specs.List.{list_all, prefix_len}
 use Rattle.std.specs.Str.{bytes_eq}
-use Rattle.mt_pattern.specs.Number.{number_up_to}
+use Rattle.mt_text.specs.Number.{number_up_to}
 use Rattle.mt_elements.specs.declared.kind.End.{End}
 use Rattle.mt_elements.specs.declared.kind.End.TheVariants.{Src, Dst}
 

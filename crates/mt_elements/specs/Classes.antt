@@ -2,7 +2,9 @@
 use Rattle.std.specs.Prelude.{ℕ, ◌==◌, if◌then◌else◌, List, [], ◌∷◌, codes, Option, Some, None, option_map}
 use Rattle.std.specs.List.{list_all}
 use Rattle.std.specs.Str.{bytes_eq}
-use Rattle.mt_pattern.specs.Number.{number_up_to, address_of, ◌>>=◌}
+use Rattle.mt_lists.specs.Options.{◌>>=◌}
+use Rattle.mt_text.specs.Number.{number_up_to}
+use Rattle.mt_text.specs.Address.{ipv4_address_of}
 use Rattle.mt_elements.specs.declared.kind.Kind.{Kind}
 use Rattle.mt_elements.specs.declared.kind.Kind.TheVariants.{Null, Counter, Queue, Paint, PaintSwitch, EtherMirror, Strip, CheckIPHeader, EtherEncap, DecIPTTL, SetIPDSCP, StoreIPAddress, GetIPAddress, IPMirror}
 use Rattle.mt_elements.specs.Arguments.{is_number, is_keyword, mac_of, end_of}
@@ -49,7 +51,7 @@ point_of _ = None
 -- an address, and which end it is stored at
 unfoldable pub store_of : List (List ℕ) → Option Kind
 store_of (first ∷ second ∷ []) = do
-  address ← address_of first
+  address ← ipv4_address_of first
   which ← end_of second
   Some (StoreIPAddress address which)
 store_of _ = None

@@ -1,7 +1,9 @@
 -- The arguments of IPFilter and IPClassifier (Click manual, in this project's profile).
 use Rattle.std.specs.Prelude.{ℕ, ◌+◌, ◌||◌, ◌==◌, if◌then◌else◌, List, length, take, drop, codes, Option, Some, None, Result, Ok, Err, option_map}
 use Rattle.std.specs.Str.{bytes_eq}
-use Rattle.mt_pattern.specs.Number.{number_up_to, place_of, ◌>>=◌}
+use Rattle.mt_lists.specs.Options.{◌>>=◌}
+use Rattle.mt_lists.specs.Cuts.{index_of}
+use Rattle.mt_text.specs.Number.{number_up_to}
 use Rattle.mt_pattern.specs.Parser.{parse_of}
 use Rattle.mt_pattern.specs.declared.pattern.Pattern.{Pattern}
 use Rattle.mt_elements.specs.Patterns.{each}
@@ -34,7 +36,7 @@ rule_at argument (Some i) = do
 
 -- a rule: an action, a space and a pattern
 abbrev pub rule_of : List ℕ → Option Rule
-rule_of argument = rule_at argument (place_of 32 argument)
+rule_of argument = rule_at argument (index_of 32 argument)
 
 -- one rule at least
 unfoldable pub rules_of : List (List ℕ) → Option (List Rule)

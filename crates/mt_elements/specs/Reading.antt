@@ -1,7 +1,7 @@
 -- Reading the tokens of the two shapes. Each reader answers what it read and the tokens behind it, or nothing.
 use Rattle.std.specs.Prelude.{ℕ, zero, suc, ◌-◌, Bool, true, false, ◌&&◌, ◌||◌, ◌==◌, nat_eq, if◌then◌else◌, List, [], ◌∷◌, codes, Option, Some, None, option_map, is_some}
 use Rattle.std.specs.List.{starts_with}
-use Rattle.mt_pattern.specs.Number.{◌>>=◌}
+use Rattle.mt_lists.specs.Options.{◌>>=◌}
 use Rattle.mt_syntax.specs.declared.token.Kind.{Kind}
 use Rattle.mt_syntax.specs.declared.token.Kind.TheVariants as kinds
 use Rattle.mt_syntax.specs.declared.token.Token.{Token}

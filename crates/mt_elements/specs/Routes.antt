@@ -1,21 +1,24 @@
 -- The arguments of LookupIPRoute and the other names of a route table (Click manual, in this project's
 -- profile).
 use Rattle.std.specs.Prelude.{ℕ, ◌+◌, ◌==◌, if◌then◌else◌, List, [], ◌∷◌, length, take, drop, Option, Some, None}
-use Rattle.mt_pattern.specs.Number.{number_up_to, decimal_up_to, address_of, place_of, ◌>>=◌}
+use Rattle.mt_lists.specs.Options.{◌>>=◌}
+use Rattle.mt_lists.specs.Cuts.{index_of}
+use Rattle.mt_text.specs.Number.{number_up_to, decimal_up_to}
+use Rattle.mt_text.specs.Address.{ipv4_address_of}
 use Rattle.mt_elements.specs.Patterns.{each, words_of}
 use Rattle.mt_elements.specs.declared.hop.Hop.{Hop}
 
 -- an address up to a place and a length behind it, or an address alone, which has 32 bits
 unfoldable pub net_at : List ℕ → Option ℕ → Option (ℕ × ℕ)
-net_at word None = address_of word >>= λ address. Some (address, 32)
+net_at word None = ipv4_address_of word >>= λ address. Some (address, 32)
 net_at word (Some i) = do
-  address ← address_of (take i word)
+  address ← ipv4_address_of (take i word)
   len ← decimal_up_to 32 (drop (i + 1) word)
   Some (address, len)
 
 -- a prefix: an address, `/` and 0 to 32, or an address alone
 abbrev pub net_of : List ℕ → Option (ℕ × ℕ)
-net_of word = net_at word (place_of 47 word)
+net_of word = net_at word (index_of 47 word)
 
 -- a prefix, perhaps a gateway, and an output from 0 to 511
 unfoldable pub hop_in : List (List ℕ) → Option Hop
@@ -25,7 +28,7 @@ hop_in (prefix ∷ last ∷ []) = do
   Some (record { address = net.0; length = net.1; gateway = None; out = out })
 hop_in (prefix ∷ second ∷ last ∷ []) = do
   net ← net_of prefix
-  gateway ← address_of second
+  gateway ← ipv4_address_of second
   out ← number_up_to 511 last
   Some (record { address = net.0; length = net.1; gateway = Some gateway; out = out })
 hop_in _ = None

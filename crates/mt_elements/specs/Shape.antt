@@ -1,7 +1,7 @@
 -- The two shapes of text, and the chains that they stand for.
 use Rattle.std.specs.Prelude.{ℕ, zero, suc, ◌+◌, ◌-◌, Bool, true, false, ◌&&◌, ◌||◌, ◌==◌, nat_lt, not, if◌then◌else◌, List, [], ◌∷◌, ◌++◌, map, take, drop, length, slice_get, Option, Some, None, codes}
 use Rattle.std.specs.Str.{bytes_eq}
-use Rattle.mt_pattern.specs.Number.{◌>>=◌}
+use Rattle.mt_lists.specs.Options.{◌>>=◌}
 use Rattle.mt_syntax.specs.Arguments.{separated}
 use Rattle.mt_syntax.specs.Tokens.{tokens_in}
 use Rattle.mt_syntax.specs.declared.token.Token.{Token}

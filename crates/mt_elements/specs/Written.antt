@@ -1,7 +1,8 @@
 -- How the arguments of filters and route tables are spelled.
 use Rattle.std.specs.Prelude.{◌≡◌, ◌↔◌, ℕ, ◌==◌, false, List, ◌∷◌, ◌++◌, Some, None, Ok}
 use Rattle.std.specs.List.{All}
-use Rattle.mt_pattern.specs.Number.{number_up_to, decimal_up_to, address_of}
+use Rattle.mt_text.specs.Number.{number_up_to, decimal_up_to}
+use Rattle.mt_text.specs.Address.{ipv4_address_of}
 use Rattle.mt_pattern.specs.Parser.{parse_of}
 use Rattle.mt_elements.specs.Filters.{action_of, rule_of}
 use Rattle.mt_elements.specs.Routes.{hop_of}
@@ -23,15 +24,15 @@ pub record IsRule (argument : List ℕ) (rule : Rule) : Type 0 where
 
 -- ADDRESS or ADDRESS/LENGTH
 pub data IsNet (word : List ℕ) (address bits : ℕ) : Type 0 where
-  alone : HasNo 47 word → address_of word ≡ Some address → bits ≡ 32 → IsNet word address bits
-  of_length : (front rest : List ℕ) → word ≡ front ++ 47 ∷ rest → HasNo 47 front → address_of front ≡ Some address → decimal_up_to 32 rest ≡ Some bits → IsNet word address bits
+  alone : HasNo 47 word → ipv4_address_of word ≡ Some address → bits ≡ 32 → IsNet word address bits
+  of_length : (front rest : List ℕ) → word ≡ front ++ 47 ∷ rest → HasNo 47 front → ipv4_address_of front ≡ Some address → decimal_up_to 32 rest ≡ Some bits → IsNet word address bits
 
 -- PREFIX OUT or PREFIX GATEWAY OUT
 pub data IsHop (argument : List ℕ) (hop : Hop) : Type 0 where
   direct : (net last : List ℕ) → argument ≡ net ++ 32 ∷ last → HasNo 32 net → HasNo 32 last → IsNet net hop.address hop.length → hop.gateway ≡ None → number_up_to 511 last ≡ Some hop.out
       → IsHop argument hop
   by_gateway : (net second last : List ℕ) (gateway : ℕ) → argument ≡ net ++ 32 ∷ (second ++ 32 ∷ last) → HasNo 32 net → HasNo 32 second → HasNo 32 last → IsNet net hop.address hop.length
-      → address_of second ≡ Some gateway → hop.gateway ≡ Some gateway → number_up_to 511 last ≡ Some hop.out → IsHop argument hop
+      → ipv4_address_of second ≡ Some gateway → hop.gateway ≡ Some gateway → number_up_to 511 last ≡ Some hop.out → IsHop argument hop
 
 -- an argument of an IPFilter is read as a rule exactly where it is spelled as that rule
 abbrev pub RulesAreSpelled : Type 0

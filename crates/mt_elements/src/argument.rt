@@ -4,7 +4,7 @@ ghost use Rattle.std.specs.List.{list_all};
 ghost use Rattle.mt_elements.specs.Arguments.{is_number, is_hex_digit, hex_value_of, hex_value, hex_number, is_name_start, is_name_byte, is_identifier, is_upper, is_keyword_byte, keyword_len, is_keyword, is_colon, pairs_of, mac_of, end_of};
 
 use crate::End;
-use mt_pattern::number::number_up_to;
+use mt_text::number_up_to;
 
 /// Whether an argument is this very number, in any form of numbers.
 #[tactic(auto, unfolding(crate::specs::Arguments::is_number))]

@@ -6,9 +6,8 @@ ghost use Rattle.mt_elements.specs.Classes.{plain, counter_of, queue_of, paint_o
 
 use crate::Kind;
 use crate::argument::{end, is_keyword, is_number, mac};
-use mt_pattern::address::address;
-use mt_pattern::number::number_up_to;
 use mt_syntax::Text;
+use mt_text::{ipv4_address, number_up_to};
 
 /// The EtherType of ARP, which no header that is put in front may have.
 const ARP: u64 = 0x0806;
@@ -131,7 +130,7 @@ fn store(arguments: &[Text]) -> Option<Kind>
 {
     match arguments {
         [first, second] => {
-            let address = address(first.bytes())?;
+            let address = ipv4_address(first.bytes())?;
             let which = end(second.bytes())?;
             Some(Kind::StoreIPAddress(address as u32, which))
         }

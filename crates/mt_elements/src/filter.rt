@@ -1,13 +1,13 @@
 //! The arguments of `IPFilter` and `IPClassifier`.
 ghost use Rattle.std.specs.Prelude.{◌≡◌, ◌<◌, ◌^◌, length, IfOk, IfSome, option_map};
-ghost use Rattle.mt_pattern.specs.Number.{place_of};
+ghost use Rattle.mt_lists.specs.Cuts.{index_of};
 ghost use Rattle.mt_elements.specs.Patterns.{each};
 ghost use Rattle.mt_elements.specs.Filters.{action_of, ip_pattern_of, rule_at, rule_of, rules_of, ip_patterns_of};
 
 use crate::rule::{FilterAction, IPPatterns, Rule, Rules};
-use mt_pattern::number::number_up_to;
 use mt_pattern::{Pattern, PatternFault};
 use mt_syntax::Text;
+use mt_text::number_up_to;
 use std::alloc::{AllocError, Global};
 
 /// The greatest number of an output that an argument may name.
@@ -42,7 +42,7 @@ fn ip_pattern(alloc: Global, argument: &[u8]) -> Result<Option<Pattern>, AllocEr
 
 /// The place of the first space.
 fn first_space(argument: &[u8]) -> Option<usize>
-    ensures place { result ≡ place_of 32 argument.now }
+    ensures place { result ≡ index_of 32 argument.now }
     ensures within { IfSome result (λ i. i < length argument.now) }
 {
     argument.iter().position(|byte| *byte == b' ')

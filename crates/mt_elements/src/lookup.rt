@@ -1,15 +1,14 @@
 //! The arguments of a route table.
 ghost use Rattle.std.specs.Prelude.{◌≡◌, ◌<◌, ◌≤◌, length, map, IfOk, IfSome, option_map};
-ghost use Rattle.mt_pattern.specs.Number.{place_of};
+ghost use Rattle.mt_lists.specs.Cuts.{index_of};
 ghost use Rattle.mt_elements.specs.Patterns.{each};
 ghost use Rattle.mt_elements.specs.Routes.{net_at, net_of, hop_in, hop_of, hops_of};
 
 use crate::classifier::words;
 use crate::filter::GREATEST_OUT;
 use crate::hop::{Hop, Hops};
-use mt_pattern::address::{address, decimal_up_to, place_of};
-use mt_pattern::number::number_up_to;
 use mt_syntax::Text;
+use mt_text::{decimal_up_to, index_of, ipv4_address, number_up_to};
 use std::alloc::{AllocError, Global};
 
 /// A prefix, as an address and a length: an address, `/` and 0 to 32, or an address alone.
@@ -19,13 +18,13 @@ fn net(word: &[u8]) -> Option<(u64, u64)>
     ensures address { IfSome result (λ n. n.0 < 4294967296) }
     ensures size { IfSome result (λ n. n.1 ≤ 32) }
 {
-    match place_of(b'/', word) {
+    match index_of(b'/', word) {
         None => {
-            let address = address(word)?;
+            let address = ipv4_address(word)?;
             Some((address, 32))
         }
         Some(slash) => {
-            let address = address(&word[..slash])?;
+            let address = ipv4_address(&word[..slash])?;
             let length = decimal_up_to(32, &word[slash + 1..])?;
             Some((address, length))
         }
@@ -50,7 +49,7 @@ fn hop_in(words: &[&[u8]]) -> Option<Hop>
         }
         [prefix, second, last] => {
             let (prefix, length) = net(prefix)?;
-            let gateway = address(second)?;
+            let gateway = ipv4_address(second)?;
             let out = number_up_to(GREATEST_OUT, last)?;
             Some(Hop {
                 address: prefix as u32,
