@@ -3,7 +3,7 @@ use Rattle.std.proofs.Common.{◌≡◌, ◌⊎◌, inl, inr, ⊎_elim, ℕ, ◌
 use Rattle.std.specs.Prelude.{IfSome, IsSomeAnd, nat_lt, if◌then◌else◌, option_map, option_and_then}
 use Rattle.std.proofs.lemmas.Bool.Decides.{nat_tests}
 use Rattle.mt_io.specs.Files.{Rose}
-use Rattle.mt_elements.specs.Parts.{Parts}
+use Rattle.mt_elements.specs.ChainState.{ChainState}
 use Rattle.mt_pcap.specs.declared.fault.PcapFault.{PcapFault}
 use Rattle.mt_pcap.specs.Capture as captures
 use Rattle.metron.specs.Command.{Words, command_of}
@@ -42,17 +42,17 @@ module _ (fault : Fault) (I : Type 0) where
   at_script None capture is later = tt
   at_script (Some text) capture is later = subst (λ (s : List ℕ). Answers (script_due s capture) fault I) (sym is) later
 
-  at_bound : (chain : Parts) (words : Words) (held : Held) → binds chain words ≡ true → Answers (option_and_then (λ s. script_due s (held words.capture)) (held words.script)) fault I → Answers (bound_due chain words held) fault I
+  at_bound : (chain : ChainState) (words : Words) (held : Held) → binds chain words ≡ true → Answers (option_and_then (λ s. script_due s (held words.capture)) (held words.script)) fault I → Answers (bound_due chain words held) fault I
   at_bound chain words held bound later =
       subst (λ b. Answers (if b then option_and_then (λ s. script_due s (held words.capture)) (held words.script) else Some (UsageWord 0)) fault I) (sym bound) later
 
-  at_unbound : (chain : Parts) (words : Words) (held : Held) → binds chain words ≡ false → fault ≡ UsageWord 0 → Answers (bound_due chain words held) fault I
+  at_unbound : (chain : ChainState) (words : Words) (held : Held) → binds chain words ≡ false → fault ≡ UsageWord 0 → Answers (bound_due chain words held) fault I
   at_unbound chain words held unbound is =
       subst (λ b. Answers (if b then option_and_then (λ s. script_due s (held words.capture)) (held words.script) else Some (UsageWord 0)) fault I) (sym unbound) (inl is)
 
-  at_chain : (told : Told) (chain : Parts) (words : Words) (held : Held) → IsChainRead told chain → Answers (bound_due chain words held) fault I → Answers (option_and_then (λ text. chain_due (chain_in text) words held) told) fault I
+  at_chain : (told : Told) (chain : ChainState) (words : Words) (held : Held) → IsChainRead told chain → Answers (bound_due chain words held) fault I → Answers (option_and_then (λ text. chain_due (chain_in text) words held) told) fault I
   at_chain None chain words held is later = tt
-  at_chain (Some text) chain words held is later = subst (λ (o : Option Parts). Answers (chain_due o words held) fault I) (sym is) later
+  at_chain (Some text) chain words held is later = subst (λ (o : Option ChainState). Answers (chain_due o words held) fault I) (sym is) later
 
 -- ---- faults
 
@@ -60,7 +60,7 @@ module _ (J : Fault → Type 0) (memory : J Memory) where
   chain_fault : (told : Told) (before after : ℕ) (words : Words) (held : Held) (fault : Fault) → (Rose before after → J (Read file.Chain)) → ChainFault told before after fault
       → Answers (option_and_then (λ text. chain_due (chain_in text) words held) told) fault (J fault)
   chain_fault None before after words held fault read why = tt
-  chain_fault (Some text) before after words held (Unbuilt file.Chain) read why = subst (λ (o : Option Parts). Answers (chain_due o words held) (Unbuilt file.Chain) (J (Unbuilt file.Chain))) (sym why) (inl refl)
+  chain_fault (Some text) before after words held (Unbuilt file.Chain) read why = subst (λ (o : Option ChainState). Answers (chain_due o words held) (Unbuilt file.Chain) (J (Unbuilt file.Chain))) (sym why) (inl refl)
   chain_fault (Some text) before after words held (Read file.Chain) read why = interrupts (chain_due (chain_in text) words held) (Read file.Chain) (J (Read file.Chain)) (read why)
   chain_fault (Some text) before after words held Memory read why = interrupts (chain_due (chain_in text) words held) Memory (J Memory) memory
   chain_fault (Some text) before after words held fault read why = absurd why

@@ -3,7 +3,7 @@ use Rattle.std.proofs.Common.{◌≡◌, ℕ, ◌<◌, ◌≤◌, true, List, []
 use Rattle.std.specs.Prelude.{IfSome}
 use Rattle.mt_io.specs.Files.{IsSame, IsSameBut, NeverFell}
 use Rattle.mt_io.proofs.Laws.{then_rose, same_twice, same_but_twice, same_but, never_fell_twice}
-use Rattle.mt_elements.specs.Parts.{Parts}
+use Rattle.mt_elements.specs.ChainState.{ChainState}
 use Rattle.mt_pcap.specs.Capture as captures
 use Rattle.metron.specs.Command.{Words, command_of, AreDistinct}
 use Rattle.metron.specs.Inputs.{Told, capture_limit, IsChainRead, IsScriptRead, IsCaptureRead, IsRefused, ScriptFault, CaptureFault}
@@ -40,7 +40,7 @@ pub record HasRead (name : List ℕ) (old new : State) : Type 0 where
   pub read_faults : NeverFell old.failed_reads new.failed_reads
   pub write_faults : NeverFell old.failed_writes new.failed_writes
 
-module _ (words : List (List ℕ)) (command : Words) (chain : Parts) (s0 s1 s2 s3 s4 : State) (order : List ℕ)
+module _ (words : List (List ℕ)) (command : Words) (chain : ChainState) (s0 s1 s2 s3 s4 : State) (order : List ℕ)
     (command_is : Some command ≡ command_of words) (distinct : AreDistinct command) where
   pub untouched_one : (name : List ℕ) → HasRead name s0 s1 → order ≡ [] → IsUntouched s0 s1 order
   untouched_one name read none = record { written = read.written; none_served = none }

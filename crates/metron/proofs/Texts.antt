@@ -12,7 +12,7 @@ use Rattle.mt_io.proofs.Laws.{gains_nothing, gains_twice, gains_then_front, gain
 use Rattle.mt_packet.specs.Packet.{PacketState}
 use Rattle.mt_packet.specs.declared.frame.Stamped.{Stamped}
 use Rattle.mt_pcap.specs.Text.{header_text, record_text, capture_text}
-use Rattle.mt_elements.specs.Parts.{Parts}
+use Rattle.mt_elements.specs.ChainState.{ChainState}
 use Rattle.mt_chain.specs.Run.{TablesState, Run, run_packet}
 use Rattle.mt_chain.specs.Sequence.{Runs, first_tables, run_each, run_all, all_taken}
 use Rattle.mt_chain.specs.declared.run.Fate.{Fate}
@@ -44,7 +44,7 @@ device_text-push device fates fate =
 -- ---- the packets that were served so far
 
 -- their fates, what the chain then remembers, and that the text of what they send was written
-pub record IsAt (device : ℕ) (chain : Parts) (tables : TablesState) (served : List (ℕ × List ℕ)) (before after : Option (List ℕ)) (order : List ℕ) : Type 0 where
+pub record IsAt (device : ℕ) (chain : ChainState) (tables : TablesState) (served : List (ℕ × List ℕ)) (before after : Option (List ℕ)) (order : List ℕ) : Type 0 where
   pub fates : List Fate
   pub runs : run_each chain (first_tables chain) [] (packets_of served) ≡ Some (record { fates = fates; tables = tables; picks = [] })
   pub numbered : order ≡ numbers (length served)
@@ -54,7 +54,7 @@ nil_of : (xs : List ℕ) → length xs ≤ 0 → xs ≡ []
 nil_of [] h = refl
 nil_of (x ∷ xs) h = absurd (omega (arith, h))
 
-all_of : (chain : Parts) (packets : List PacketState) (runs : Runs) → run_each chain (first_tables chain) [] packets ≡ Some runs → runs.picks ≡ [] → run_all chain packets [] ≡ Some runs.fates
+all_of : (chain : ChainState) (packets : List PacketState) (runs : Runs) → run_each chain (first_tables chain) [] packets ≡ Some runs → runs.picks ≡ [] → run_all chain packets [] ≡ Some runs.fates
 unfolding run_all
 all_of chain packets runs is none =
     ap (option_and_then all_taken) is ∙ ap (λ picks. all_taken (record runs { picks = picks })) none
@@ -62,7 +62,7 @@ all_of chain packets runs is none =
 pub counted_more : (number : ℕ) (served : List (ℕ × List ℕ)) (arrival : ℕ × List ℕ) → number ≡ length served → number + 1 ≡ length (served ++ arrival ∷ [])
 counted_more number served arrival counted = let longer = length-append served (arrival ∷ []) in omega (arith, longer, counted)
 
-module _ (device : ℕ) (chain : Parts) where
+module _ (device : ℕ) (chain : ChainState) where
   -- none was served, and the header was written
   pub begun : (tables : TablesState) (before after : Option (List ℕ)) (order : List ℕ) → tables ≡ first_tables chain → order ≡ [] → Gains before header_text after → IsAt device chain tables [] before after order
   unfolding run_each
@@ -155,7 +155,7 @@ nothing_left : (used : ℕ) → length (drop used (nothing)) ≤ 0
 nothing_left used = let left = length-drop used nothing in omega (arith, left)
 
 -- the run of one packet, with no picks, and a front of what it sends
-module _ (device : ℕ) (chain : Parts) (tables tables' : TablesState) (packet : PacketState) (fate : Fate) (used : ℕ) (run : run_packet chain tables packet [] ≡ Some (record { fate = fate; tables = tables'; picks = drop used [] })) where
+module _ (device : ℕ) (chain : ChainState) (tables tables' : TablesState) (packet : PacketState) (fate : Fate) (used : ℕ) (run : run_packet chain tables packet [] ≡ Some (record { fate = fate; tables = tables'; picks = drop used [] })) where
   pub broken_off : (before after : Option (List ℕ)) → GainsFront before (fate_text device fate) after → HasBrokenOff device chain tables packet before after
   broken_off before after front = record {
     run = record { fate = fate; tables = tables'; picks = drop used [] };

@@ -1,7 +1,7 @@
 -- The answer that a run owes, as a function of its words and of what the files hold; none where that is not told.
 use Rattle.std.specs.Prelude.{◌≡◌, ◌⊎◌, ℕ, nat_lt, if◌then◌else◌, true, List, [], ◌∷◌, length, Option, Some, None, option_map, option_and_then, IfSome, IsSomeAnd, ⊤}
 use Rattle.mt_io.specs.Files.{Rose, IsSameBut}
-use Rattle.mt_elements.specs.Parts.{Parts}
+use Rattle.mt_elements.specs.ChainState.{ChainState}
 use Rattle.mt_pcap.specs.Capture as captures
 use Rattle.metron.specs.Command.{Words, command_of}
 use Rattle.metron.specs.Inputs.{Told, chain_in, capture_limit, is_no_header}
@@ -20,10 +20,10 @@ abbrev pub script_due : List ℕ → Told → Option Fault
 script_due [] capture = option_map capture_due capture
 script_due (byte ∷ more) capture = Some (Unbuilt file.Script)
 
-abbrev pub bound_due : Parts → Words → Held → Option Fault
+abbrev pub bound_due : ChainState → Words → Held → Option Fault
 bound_due chain words held = if binds chain words then option_and_then (λ script. script_due script (held words.capture)) (held words.script) else Some (UsageWord 0)
 
-abbrev pub chain_due : Option Parts → Words → Held → Option Fault
+abbrev pub chain_due : Option ChainState → Words → Held → Option Fault
 chain_due None words held = Some (Unbuilt file.Chain)
 chain_due (Some chain) words held = bound_due chain words held
 
@@ -59,7 +59,7 @@ pub record NoneFailed (old new : State) : Type 0 where
 -- all frames of a whole capture were served in their order, and those sent are written behind what was written before
 pub record IsFinished (words : List (List ℕ)) (old new : State) (order : List ℕ) : Type 0 where
   pub command : Words
-  pub chain : Parts
+  pub chain : ChainState
   pub capture : captures.Capture
   pub stands : IsAtRun words old.held command chain capture
   pub sound : capture.end ≡ None

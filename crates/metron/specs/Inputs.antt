@@ -2,8 +2,8 @@
 -- nothing is said of it.
 use Rattle.std.specs.Prelude.{◌≡◌, ◌<◌, ◌≤◌, ℕ, Bool, true, false, nat_lt, if◌then◌else◌, List, [], length, Option, Some, None, IfSome, ⊤}
 use Rattle.mt_io.specs.Files.{Rose}
-use Rattle.mt_elements.specs.Parts.{Parts}
-use Rattle.mt_elements.specs.Shape.{chain_of}
+use Rattle.mt_elements.specs.ChainState.{ChainState}
+use Rattle.mt_elements.specs.ShapeChains.{chain_of}
 use Rattle.mt_pcap.specs.declared.fault.PcapFault.{PcapFault}
 use Rattle.mt_pcap.specs.declared.fault.PcapFault.TheVariants.{NotPcap, WrongLink}
 use Rattle.mt_pcap.specs.declared.reading.WholeCapture.{WholeCapture}
@@ -19,10 +19,10 @@ Told = Option (List ℕ)
 -- ---- the chain
 
 -- the chain that a text stands for, where it has at most 1,048,576 bytes and a shape that can be read
-unfoldable pub chain_in : List ℕ → Option Parts
+unfoldable pub chain_in : List ℕ → Option ChainState
 chain_in text = if nat_lt 1048576 (length text) then None else chain_of text
 
-abbrev pub IsChainRead : Told → Parts → Type 0
+abbrev pub IsChainRead : Told → ChainState → Type 0
 IsChainRead held chain = IfSome held (λ text. chain_in text ≡ Some chain)
 
 -- why the chain's file gives no chain; the numbers are its failed reads before and after

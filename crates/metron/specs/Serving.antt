@@ -4,7 +4,7 @@ use Rattle.std.specs.List.{range_with_len}
 use Rattle.mt_io.specs.Files.{Rose, Gains}
 use Rattle.mt_io.specs.Copy.{GainsFront}
 use Rattle.mt_packet.specs.Packet.{PacketState}
-use Rattle.mt_elements.specs.Parts.{Parts}
+use Rattle.mt_elements.specs.ChainState.{ChainState}
 use Rattle.mt_chain.specs.Run.{TablesState, Run, run_packet}
 use Rattle.mt_chain.specs.Sequence.{run_all}
 use Rattle.mt_chain.specs.declared.run.Fate.{Fate}
@@ -19,14 +19,14 @@ numbers n = range_with_len 0 n
 
 -- Every record was served in its order. The chain, run element by element on their packets one after the
 -- other, gives these fates, and the text of what is sent on the device was written.
-pub record HasServed (device : ℕ) (chain : Parts) (records : List (ℕ × List ℕ)) (before after : Option (List ℕ)) (order : List ℕ) : Type 0 where
+pub record HasServed (device : ℕ) (chain : ChainState) (records : List (ℕ × List ℕ)) (before after : Option (List ℕ)) (order : List ℕ) : Type 0 where
   pub fates : List Fate
   pub run : run_all chain (packets_of records) [] ≡ Some fates
   pub all : order ≡ numbers (length records)
   pub written : Gains before (device_text device fates) after
 
 -- Some of the records were served, from the first on, and a front of their text was written.
-pub record HasServedSome (device : ℕ) (chain : Parts) (records : List (ℕ × List ℕ)) (before after : Option (List ℕ)) (order : List ℕ) : Type 0 where
+pub record HasServedSome (device : ℕ) (chain : ChainState) (records : List (ℕ × List ℕ)) (before after : Option (List ℕ)) (order : List ℕ) : Type 0 where
   pub count : ℕ
   pub within : count ≤ length records
   pub fates : List Fate
@@ -35,13 +35,13 @@ pub record HasServedSome (device : ℕ) (chain : Parts) (records : List (ℕ × 
   pub written : GainsFront before (device_text device fates) after
 
 -- One packet was served: it ran, and the text of what it sends on the device was written.
-pub record HasServedOne (device : ℕ) (chain : Parts) (tables tables' : TablesState) (packet : PacketState) (before after : Option (List ℕ)) : Type 0 where
+pub record HasServedOne (device : ℕ) (chain : ChainState) (tables tables' : TablesState) (packet : PacketState) (before after : Option (List ℕ)) : Type 0 where
   pub fate : Fate
   pub run : run_packet chain tables packet [] ≡ Some (record { fate = fate; tables = tables'; picks = [] })
   pub written : Gains before (fate_text device fate) after
 
 -- One packet was served in part: it ran, and a front of that text was written.
-pub record HasBrokenOff (device : ℕ) (chain : Parts) (tables : TablesState) (packet : PacketState) (before after : Option (List ℕ)) : Type 0 where
+pub record HasBrokenOff (device : ℕ) (chain : ChainState) (tables : TablesState) (packet : PacketState) (before after : Option (List ℕ)) : Type 0 where
   pub run : Run
   pub is : run_packet chain tables packet [] ≡ Some run
   pub none_left : length run.picks ≤ 0

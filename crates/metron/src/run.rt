@@ -1,7 +1,7 @@
 //! The top call.
 ghost use Rattle.std.specs.Prelude.{◌≡◌, ◌⊎◌, [], map, Some};
 ghost use Rattle.std.specs.String.{string_bytes};
-ghost use Rattle.mt_elements.specs.Parts.{Parts};
+ghost use Rattle.mt_elements.specs.ChainState.{ChainState};
 ghost use Rattle.metron.specs.Outcome.{status_of};
 ghost use Rattle.metron.specs.Order.{order_of};
 ghost use Rattle.metron.specs.Command.{view, command_of};

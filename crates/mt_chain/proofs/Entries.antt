@@ -6,7 +6,7 @@ use Rattle.std.proofs.lemmas.Bool.Decides.{nat_tests}
 use Rattle.std.proofs.lemmas.Option.{none-some}
 use Rattle.mt_packet.specs.declared.layer.Layer.{Layer}
 use Rattle.mt_elements.specs.declared.kind.Kind.TheVariants.{FromDevice}
-use Rattle.mt_elements.specs.Parts.{Parts}
+use Rattle.mt_elements.specs.ChainState.{ChainState}
 use Rattle.mt_elements.specs.Accepted.{IsAccepted}
 use Rattle.mt_chain.specs.Run.{is_entry, entry_of, IsThere}
 
@@ -29,5 +29,5 @@ there_is p xs i x is passes =
     (position_or_len p xs, grind (arith, nat_tests))
 
 -- an accepted chain has an element for device 1
-pub has_entry : (chain : Parts) (reached : ℕ → Layer → Bool) → IsAccepted chain reached → IsThere (entry_of chain 1)
+pub has_entry : (chain : ChainState) (reached : ℕ → Layer → Bool) → IsAccepted chain reached → IsThere (entry_of chain 1)
 has_entry chain reached accepted = there_is (is_entry 1) chain.kinds accepted.entry.0 (FromDevice 1) accepted.entry.1 refl

@@ -20,7 +20,7 @@ use Rattle.mt_elements.specs.declared.rule.FilterAction.TheVariants.{Deny, Out}
 use Rattle.mt_chain.specs.declared.step.Step.{Step}
 use Rattle.mt_chain.specs.Pattern.{is_whole}
 use Rattle.mt_chain.specs.Step.{stateless_step, refused, at_ethernet, at_bare, at_ip, by_pattern, has_run_out, address_of, addresses_swapped, ports_swapped, by_action, by_ip_pattern, towards, by_hop}
-use Rattle.mt_elements.specs.Parts.{Parts}
+use Rattle.mt_elements.specs.ChainState.{ChainState}
 use Rattle.mt_chain.specs.declared.run.Fate.{Fate}
 use Rattle.mt_chain.specs.declared.run.Fate.TheVariants.{Sent, Dropped}
 use Rattle.mt_chain.specs.declared.walk.Ending.TheVariants as ending
@@ -212,7 +212,7 @@ came_from p q (Dropped why) kept h = tt
 abbrev RunsFrom : PacketState → Option Run → Type 0
 RunsFrom p found = IfSome found (λ run. ComesFrom p run.fate)
 
-module _ (chain : Parts) (most : ℕ) (again : (place : ℕ × ℕ) (state : State) → RunsFrom state.packet (run_from most chain place state)) (p : PacketState) where
+module _ (chain : ChainState) (most : ℕ) (again : (place : ℕ × ℕ) (state : State) → RunsFrom state.packet (run_from most chain place state)) (p : PacketState) where
   by_move : (state : State) → IsKept p state.packet → (move : Option Move) → RunsFrom p (option_and_then (follow (run_from most chain) state) move)
   by_move state kept None = tt
   by_move state kept (Some (Goes element input)) = either (run_from most chain (element, input) state) (again (element, input) state)
@@ -234,13 +234,13 @@ module _ (chain : Parts) (most : ℕ) (again : (place : ℕ × ℕ) (state : Sta
   by_kind place state is None = tt
   by_kind place state is (Some kind) = by_step place.0 kind state (stateless_step kind state.packet) (subst (λ q. Keeps q (stateless_step kind state.packet)) is (step_kept kind state.packet))
 
-along : (most : ℕ) (chain : Parts) (place : ℕ × ℕ) (state : State) → RunsFrom state.packet (run_from most chain place state)
+along : (most : ℕ) (chain : ChainState) (place : ℕ × ℕ) (state : State) → RunsFrom state.packet (run_from most chain place state)
 unfolding run_from
 along zero chain place state = tt
 along (suc most) chain place state = by_kind chain most (λ place' state'. along most chain place' state') state.packet place state refl (slice_get chain.kinds place.0)
 
 -- what a run sends comes from its packet
-pub run_kept : (chain : Parts) (tables : TablesState) (packet : PacketState) (picks : List ℕ) → RunsFrom packet (run_packet chain tables packet picks)
+pub run_kept : (chain : ChainState) (tables : TablesState) (packet : PacketState) (picks : List ℕ) → RunsFrom packet (run_packet chain tables packet picks)
 unfolding run_packet
 run_kept chain tables packet picks = entered (entry_of chain packet.device)
   where
@@ -248,7 +248,7 @@ run_kept chain tables packet picks = entered (entry_of chain packet.device)
     entered None = tt
     entered (Some entry) = along (length chain.kinds) chain (entry, 0) _
 
-pub sent_from : (chain : Parts) (tables : TablesState) (packet : PacketState) (picks : List ℕ) (run : Run) → run_packet chain tables packet picks ≡ Some run → ComesFrom packet run.fate
+pub sent_from : (chain : ChainState) (tables : TablesState) (packet : PacketState) (picks : List ℕ) (run : Run) → run_packet chain tables packet picks ≡ Some run → ComesFrom packet run.fate
 sent_from chain tables packet picks run is = subst (λ found. RunsFrom packet found) is (run_kept chain tables packet picks)
 
 -- ---- picks
@@ -257,7 +257,7 @@ sent_from chain tables packet picks run is = subst (λ found. RunsFrom packet fo
 abbrev LeavesPicks : List ℕ → Option Run → Type 0
 LeavesPicks picks found = IfSome found (λ run. run.picks ≡ picks)
 
-module _ (chain : Parts) (most : ℕ) (picks : List ℕ) (again : (place : ℕ × ℕ) (state : State) → state.picks ≡ picks → LeavesPicks picks (run_from most chain place state)) where
+module _ (chain : ChainState) (most : ℕ) (picks : List ℕ) (again : (place : ℕ × ℕ) (state : State) → state.picks ≡ picks → LeavesPicks picks (run_from most chain place state)) where
   picks_moved : (state : State) → state.picks ≡ picks → (move : Option Move) → LeavesPicks picks (option_and_then (follow (run_from most chain) state) move)
   picks_moved state is None = tt
   picks_moved state is (Some (Goes element input)) = again (element, input) state is
@@ -273,13 +273,13 @@ module _ (chain : Parts) (most : ℕ) (picks : List ℕ) (again : (place : ℕ �
   picks_behind place state is None = tt
   picks_behind place state is (Some kind) = picks_stepped place.0 kind state is (stateless_step kind state.packet)
 
-picks_along : (most : ℕ) (chain : Parts) (picks : List ℕ) (place : ℕ × ℕ) (state : State) → state.picks ≡ picks → LeavesPicks picks (run_from most chain place state)
+picks_along : (most : ℕ) (chain : ChainState) (picks : List ℕ) (place : ℕ × ℕ) (state : State) → state.picks ≡ picks → LeavesPicks picks (run_from most chain place state)
 unfolding run_from
 picks_along zero chain picks place state is = tt
 picks_along (suc most) chain picks place state is =
     picks_behind chain most picks (λ place' state' is'. picks_along most chain picks place' state' is') place state is (slice_get chain.kinds place.0)
 
-picks_of_run : (chain : Parts) (tables : TablesState) (packet : PacketState) (picks : List ℕ) → LeavesPicks picks (run_packet chain tables packet picks)
+picks_of_run : (chain : ChainState) (tables : TablesState) (packet : PacketState) (picks : List ℕ) → LeavesPicks picks (run_packet chain tables packet picks)
 unfolding run_packet
 picks_of_run chain tables packet picks = entered (entry_of chain packet.device)
   where
@@ -287,7 +287,7 @@ picks_of_run chain tables packet picks = entered (entry_of chain packet.device)
     entered None = tt
     entered (Some entry) = picks_along (length chain.kinds) chain picks (entry, 0) _ refl
 
-pub picks_left : (chain : Parts) (tables : TablesState) (packet : PacketState) (picks : List ℕ) (run : Run) → run_packet chain tables packet picks ≡ Some run → length run.picks ≤ length picks
+pub picks_left : (chain : ChainState) (tables : TablesState) (packet : PacketState) (picks : List ℕ) (run : Run) → run_packet chain tables packet picks ≡ Some run → length run.picks ≤ length picks
 picks_left chain tables packet picks run is =
     let same : length run.picks ≡ length picks = ap length (subst (λ found. LeavesPicks picks found) is (picks_of_run chain tables packet picks)) in
     omega (arith, same)

@@ -2,7 +2,7 @@
 use Rattle.std.proofs.Common.{◌≡◌, ◌∙◌, ap, refl, ℕ, List, [], ◌∷◌, ◌++◌}
 use Rattle.std.specs.Prelude.{Option, Some, None, option_map, option_and_then}
 use Rattle.mt_packet.specs.Packet.{PacketState}
-use Rattle.mt_elements.specs.Parts.{Parts}
+use Rattle.mt_elements.specs.ChainState.{ChainState}
 use Rattle.mt_chain.specs.Run.{TablesState, Run, run_packet}
 use Rattle.mt_chain.specs.Sequence.{Runs, before, run_each}
 
@@ -10,7 +10,7 @@ use Rattle.mt_chain.specs.Sequence.{Runs, before, run_each}
 abbrev pub behind : Runs → Run → Runs
 behind so_far last = record { fates = so_far.fates ++ last.fate ∷ []; tables = last.tables; picks = last.picks }
 
-module _ (chain : Parts) where
+module _ (chain : ChainState) where
   -- one more behind some
   abbrev more : PacketState → Runs → Option Runs
   more packet so_far = option_map (behind so_far) (run_packet chain so_far.tables packet so_far.picks)

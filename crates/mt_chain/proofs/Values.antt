@@ -23,8 +23,8 @@ use Rattle.mt_elements.specs.declared.rule.FilterAction.TheVariants.{Deny, Out}
 use Rattle.mt_elements.specs.declared.rule.Rule.{Rule}
 use Rattle.mt_pattern.specs.declared.pattern.Pattern.{Pattern}
 use Rattle.mt_pattern.specs.declared.pattern.Pattern.TheVariants as pattern
-use Rattle.mt_elements.specs.Parts.{Parts}
-use Rattle.mt_elements.specs.Chain.{next_of, wired_of}
+use Rattle.mt_elements.specs.ChainState.{ChainState}
+use Rattle.mt_elements.specs.ChainState.{next_of, wired_of}
 use Rattle.mt_elements.specs.Layers.{takes, layer_behind, output_count, filter_outs, route_outs, may_be_open, is_bare}
 use Rattle.mt_elements.specs.Accepted.{IsKind, LeadsOn, IsAccepted}
 use Rattle.mt_chain.specs.declared.step.Step.{Step}
@@ -176,7 +176,7 @@ kind_is : (device : ℕ) (kind : Kind) (h : is_entry device kind ≡ true) → k
 kind_is device (FromDevice number) h = refl
 kind_is device kind h = absurd (false≢true h)
 
-module _ (chain : Parts) (reached : ℕ → Layer → Bool) (accepted : IsAccepted chain reached) where
+module _ (chain : ChainState) (reached : ℕ → Layer → Bool) (accepted : IsAccepted chain reached) where
   module _ (most element : ℕ) (kind : Kind) (layer : Layer) (is_kind : IsKind chain element kind) (at : reached element layer ≡ true)
       (again : (to input : ℕ) (state : State) → element < to → to < length chain.kinds → reached to state.packet.layer ≡ true → IsThere (run_from most chain (to, input) state)) where
     dropped : (state : State) (why : Option Cause) → IsThere why → IsThere (option_and_then (follow (run_from most chain) state) (by_wire None why))
@@ -238,7 +238,7 @@ module _ (chain : Parts) (reached : ℕ → Layer → Bool) (accepted : IsAccept
   has_run tables packet picks arrived known = entered packet.device packet tables picks (entry_of chain packet.device) refl arrived known
 
 -- a run begins at the element of its device
-pub from_entry : (chain : Parts) (tables : TablesState) (packet : PacketState) (picks : List ℕ) (entry device : ℕ) → device ≡ packet.device → Some entry ≡ entry_of chain device
+pub from_entry : (chain : ChainState) (tables : TablesState) (packet : PacketState) (picks : List ℕ) (entry device : ℕ) → device ≡ packet.device → Some entry ≡ entry_of chain device
     → run_packet chain tables packet picks ≡ run_from (length chain.kinds) chain (entry, 0) (record { packet = packet; tables = tables; picks = picks })
 unfolding run_packet
 from_entry chain tables packet picks entry device same is =

@@ -3,7 +3,7 @@ use Rattle.std.proofs.Common.{◌≡◌, ℕ, suc, ◌+◌, ◌-◌, ◌<◌, Li
 use Rattle.std.specs.Prelude.{Option, Some, None, slice_get, option_map, option_and_then}
 use Rattle.mt_packet.specs.Packet.{PacketState}
 use Rattle.mt_elements.specs.declared.kind.Kind.{Kind}
-use Rattle.mt_elements.specs.Parts.{Parts}
+use Rattle.mt_elements.specs.ChainState.{ChainState}
 use Rattle.mt_chain.specs.declared.step.Step.{Step}
 use Rattle.mt_chain.specs.declared.walk.Ending.{Ending}
 use Rattle.mt_chain.specs.declared.walk.Move.{Move}
@@ -11,13 +11,13 @@ use Rattle.mt_chain.specs.declared.walk.Move.TheVariants.{Goes, Ends}
 use Rattle.mt_chain.specs.Step.{stateless_step}
 use Rattle.mt_chain.specs.Run.{TablesState, State, Run, with_packet, element_step, move_of, follow, goes_on, run_from, fate_of}
 
-one_step : (most : ℕ) (chain : Parts) (place : ℕ × ℕ) (state : State) (kind : Kind) → slice_get chain.kinds place.0 ≡ Some kind
+one_step : (most : ℕ) (chain : ChainState) (place : ℕ × ℕ) (state : State) (kind : Kind) → slice_get chain.kinds place.0 ≡ Some kind
     → run_from (suc most) chain place state ≡ option_and_then (goes_on chain place.0 kind (run_from most chain)) (element_step kind place.1 state)
 unfolding run_from
 one_step most chain place state kind is =
     ap (option_and_then (λ k. option_and_then (goes_on chain place.0 k (run_from most chain)) (element_step k place.1 state))) is
 
-no_step : (most : ℕ) (chain : Parts) (place : ℕ × ℕ) (state : State) → slice_get chain.kinds place.0 ≡ None → run_from (suc most) chain place state ≡ None
+no_step : (most : ℕ) (chain : ChainState) (place : ℕ × ℕ) (state : State) → slice_get chain.kinds place.0 ≡ None → run_from (suc most) chain place state ≡ None
 unfolding run_from
 no_step most chain place state none =
     ap (option_and_then (λ k. option_and_then (goes_on chain place.0 k (run_from most chain)) (element_step k place.1 state))) none
@@ -30,7 +30,7 @@ module _ (tables : TablesState) (picks : List ℕ) where
   abbrev pub at : PacketState → State
   at packet = record { packet = packet; tables = tables; picks = picks }
 
-  module _ (chain : Parts) (all : Option Run) (n i : ℕ) (place : ℕ × ℕ) (packet : PacketState) (within : i < n) (so_far : all ≡ run_from (n - i) chain place (at packet)) where
+  module _ (chain : ChainState) (all : Option Run) (n i : ℕ) (place : ℕ × ℕ) (packet : PacketState) (within : i < n) (so_far : all ≡ run_from (n - i) chain place (at packet)) where
     here : (kind : Kind) (stepped : Option (PacketState × Step)) → slice_get chain.kinds place.0 ≡ Some kind → stepped ≡ stateless_step kind packet
         → all ≡ option_and_then (goes_on chain place.0 kind (run_from (n - (i + 1)) chain)) (option_map (with_packet (at packet)) stepped)
     here kind stepped is stepped_is =
@@ -75,6 +75,6 @@ module _ (tables : TablesState) (picks : List ℕ) where
     nowhere none = so_far ∙ ap (λ m. run_from m chain place (at packet)) (left_over n i within) ∙ no_step (n - (i + 1)) chain place (at packet) none
 
 -- no element is left for the way
-pub used_up : (chain : Parts) (place : ℕ × ℕ) (state : State) (n : ℕ) → n ≡ 0 → run_from n chain place state ≡ None
+pub used_up : (chain : ChainState) (place : ℕ × ℕ) (state : State) (n : ℕ) → n ≡ 0 → run_from n chain place state ≡ None
 unfolding run_from
 used_up chain place state n none = ap (λ m. run_from m chain place state) none

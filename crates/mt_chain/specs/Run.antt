@@ -5,8 +5,8 @@ use Rattle.mt_packet.specs.declared.cause.Cause.{Cause}
 use Rattle.mt_packet.specs.declared.frame.Stamped.{Stamped}
 use Rattle.mt_elements.specs.declared.kind.Kind.{Kind}
 use Rattle.mt_elements.specs.declared.kind.Kind.TheVariants.{FromDevice}
-use Rattle.mt_elements.specs.Parts.{Parts}
-use Rattle.mt_elements.specs.Chain.{next_of}
+use Rattle.mt_elements.specs.ChainState.{ChainState}
+use Rattle.mt_elements.specs.ChainState.{next_of}
 use Rattle.mt_chain.specs.declared.step.Step.{Step}
 use Rattle.mt_chain.specs.declared.step.Step.TheVariants.{Leaves, Sends, Drops}
 use Rattle.mt_chain.specs.declared.run.Fate.{Fate}
@@ -53,7 +53,7 @@ by_wire None (Some why) = Some (Ends (Dropped why))
 by_wire None None = None
 
 -- where a step of an element leads: to an input of another element, or to the packet's end
-abbrev pub move_of : Parts → ℕ → Kind → Step → Option Move
+abbrev pub move_of : ChainState → ℕ → Kind → Step → Option Move
 move_of chain element kind (Leaves out) = by_wire (next_of chain element out) (unwired_cause kind out)
 move_of chain element kind (Sends device) = Some (Ends (Sent device))
 move_of chain element kind (Drops why) = Some (Ends (Dropped why))
@@ -74,11 +74,11 @@ follow along state (Goes element input) = along (element, input) state
 follow along state (Ends ending) = Some (record { fate = fate_of state.packet ending; tables = state.tables; picks = state.picks })
 
 -- the run goes on behind a step of an element
-abbrev pub goes_on : Parts → ℕ → Kind → (ℕ × ℕ → State → Option Run) → State × Step → Option Run
+abbrev pub goes_on : ChainState → ℕ → Kind → (ℕ × ℕ → State → Option Run) → State × Step → Option Run
 goes_on chain element kind along after = option_and_then (follow along after.0) (move_of chain element kind after.1)
 
 -- The run from an element and its input on. `most` is no less than the number of elements on the way.
-unfoldable pub run_from : ℕ → Parts → ℕ × ℕ → State → Option Run
+unfoldable pub run_from : ℕ → ChainState → ℕ × ℕ → State → Option Run
 run_from zero chain place state = None
 run_from (suc most) chain place state =
     option_and_then (λ kind. option_and_then (goes_on chain place.0 kind (run_from most chain)) (element_step kind place.1 state)) (slice_get chain.kinds place.0)
@@ -88,13 +88,13 @@ is_entry device (FromDevice number) = number == device
 is_entry device kind = false
 
 -- the element by which the packets of a device enter
-abbrev pub entry_of : Parts → ℕ → Option ℕ
+abbrev pub entry_of : ChainState → ℕ → Option ℕ
 entry_of chain device = position (is_entry device) chain.kinds
 
 -- The run of a packet that arrives, from what the chain remembers and the ports to be picked to its fate,
 -- what the chain then remembers and the ports that are left. It has no value where a port that it needs
 -- is missing or is not free, or where the chain has no way for it.
-unfoldable pub run_packet : Parts → TablesState → PacketState → List ℕ → Option Run
+unfoldable pub run_packet : ChainState → TablesState → PacketState → List ℕ → Option Run
 run_packet chain tables packet picks =
     option_and_then (λ entry. run_from (length chain.kinds) chain (entry, 0) (record { packet = packet; tables = tables; picks = picks })) (entry_of chain packet.device)
 

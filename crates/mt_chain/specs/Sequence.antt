@@ -1,7 +1,7 @@
 -- The runs of packets, one after the other.
 use Rattle.std.specs.Prelude.{ℕ, ◌==◌, if◌then◌else◌, List, [], ◌∷◌, length, Option, Some, None, option_map, option_and_then}
 use Rattle.mt_packet.specs.Packet.{PacketState}
-use Rattle.mt_elements.specs.Parts.{Parts}
+use Rattle.mt_elements.specs.ChainState.{ChainState}
 use Rattle.mt_chain.specs.declared.run.Fate.{Fate}
 use Rattle.mt_chain.specs.Run.{TablesState, Run, run_packet}
 
@@ -12,7 +12,7 @@ pub record Runs : Type 0 where
   pub picks : List ℕ
 
 -- what a chain remembers before its first packet
-abbrev pub first_tables : Parts → TablesState
+abbrev pub first_tables : ChainState → TablesState
 first_tables chain = record { turns = [] }
 
 abbrev pub before : Run → Runs → Runs
@@ -20,7 +20,7 @@ before first more = record more { fates = first.fate ∷ more.fates }
 
 -- Each packet runs after the one before it, with what that one leaves. There is no value where the run of
 -- one has none.
-unfoldable pub run_each : Parts → TablesState → List ℕ → List PacketState → Option Runs
+unfoldable pub run_each : ChainState → TablesState → List ℕ → List PacketState → Option Runs
 run_each chain tables picks [] = Some (record { fates = []; tables = tables; picks = picks })
 run_each chain tables picks (packet ∷ packets) =
     option_and_then (λ first. option_map (before first) (run_each chain first.tables first.picks packets)) (run_packet chain tables packet picks)
@@ -29,5 +29,5 @@ abbrev pub all_taken : Runs → Option (List Fate)
 all_taken runs = if length runs.picks == 0 then Some runs.fates else None
 
 -- The fates of packets from the first one that a chain sees, with just these ports picked.
-unfoldable pub run_all : Parts → List PacketState → List ℕ → Option (List Fate)
+unfoldable pub run_all : ChainState → List PacketState → List ℕ → Option (List Fate)
 run_all chain packets picks = option_and_then all_taken (run_each chain (first_tables chain) picks packets)

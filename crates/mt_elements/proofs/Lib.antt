@@ -1,14 +1,11 @@
-pub mod Each
-pub mod Lines
-pub mod Comments
-pub mod Digits
-pub mod Uses
-pub mod Middle
-pub mod Straight
-pub mod Branches
-pub mod Acceptance
-pub mod Spelled
-mod Cut
-pub mod Written
-mod Built
+mod ArgumentsSpelled
+mod ChainsAccepted
+mod ClassifiedAccepted
+mod CommentFound
+mod LineAccepted
+mod LineWalked
+mod MiddleKinds
 mod Rows
+mod ShapesRead
+mod TextsAccepted
+mod UsesRead

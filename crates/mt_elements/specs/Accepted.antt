@@ -4,22 +4,22 @@ use Rattle.mt_packet.specs.declared.layer.Layer.{Layer}
 use Rattle.mt_packet.specs.declared.layer.Layer.TheVariants.{Frame}
 use Rattle.mt_elements.specs.declared.kind.Kind.{Kind}
 use Rattle.mt_elements.specs.declared.kind.Kind.TheVariants.{FromDevice, ToDevice, SetIPDSCP}
-use Rattle.mt_elements.specs.Parts.{Parts}
-use Rattle.mt_elements.specs.Chain.{next_of, wired_of}
+use Rattle.mt_elements.specs.ChainState.{ChainState}
+use Rattle.mt_elements.specs.ChainState.{next_of, wired_of}
 use Rattle.mt_elements.specs.Layers.{takes, layer_behind, output_count, may_be_open}
 
 -- the element of that number is of that kind
-abbrev pub IsKind : Parts → ℕ → Kind → Type 0
+abbrev pub IsKind : ChainState → ℕ → Kind → Type 0
 IsKind chain element kind = slice_get chain.kinds element ≡ Some kind
 
 -- Where an output of an element leads at a layer: to a later element, which is then reached at that layer.
 -- An output that leads nowhere has to be one that may.
-abbrev pub LeadsOn : Parts → (ℕ → Layer → Bool) → ℕ → Layer → Bool → Option (ℕ × ℕ) → Type 0
+abbrev pub LeadsOn : ChainState → (ℕ → Layer → Bool) → ℕ → Layer → Bool → Option (ℕ × ℕ) → Type 0
 LeadsOn chain reached element layer free (Some wire) = (element < wire.0) × (wire.0 < length chain.kinds) × (reached wire.0 layer ≡ true)
 LeadsOn chain reached element layer free None = free ≡ true
 
 -- An accepted chain, with the layers at which each of its elements is reached.
-pub record IsAccepted (chain : Parts) (reached : ℕ → Layer → Bool) : Type 0 where
+pub record IsAccepted (chain : ChainState) (reached : ℕ → Layer → Bool) : Type 0 where
   -- packets arrive on device 1
   pub entry : (element : ℕ) × IsKind chain element (FromDevice 1)
   -- packets enter the element of their device as frames
@@ -40,5 +40,5 @@ pub record IsAccepted (chain : Parts) (reached : ℕ → Layer → Bool) : Type 
   pub sends : (element device : ℕ) → IsKind chain element (ToDevice device) → (0 < device) × (device ≤ length chain.devices)
 
 -- A chain that is accepted, so that every packet that arrives on one of its devices can run through it.
-abbrev pub CanRun : Parts → Type 0
+abbrev pub CanRun : ChainState → Type 0
 CanRun chain = (reached : ℕ → Layer → Bool) × IsAccepted chain reached

@@ -1,13 +1,17 @@
 -- The stateless classes, with the arguments that each takes (Click manual, in this project's profile).
-use Rattle.std.specs.Prelude.{ℕ, ◌==◌, if◌then◌else◌, List, [], ◌∷◌, codes, Option, Some, None, option_map}
+use Rattle.std.specs.Prelude.{ℕ, Bool, ◌||◌, ◌==◌, if◌then◌else◌, List, [], ◌∷◌, codes, Option, Some, None, option_map}
 use Rattle.std.specs.List.{list_all}
 use Rattle.std.specs.Str.{bytes_eq}
 use Rattle.mt_lists.specs.Options.{◌>>=◌}
 use Rattle.mt_text.specs.Number.{number_up_to}
 use Rattle.mt_text.specs.Address.{ipv4_address_of}
 use Rattle.mt_elements.specs.declared.kind.Kind.{Kind}
-use Rattle.mt_elements.specs.declared.kind.Kind.TheVariants.{Null, Counter, Queue, Paint, PaintSwitch, EtherMirror, Strip, CheckIPHeader, EtherEncap, DecIPTTL, SetIPDSCP, StoreIPAddress, GetIPAddress, IPMirror}
-use Rattle.mt_elements.specs.Arguments.{is_number, is_keyword, mac_of, end_of}
+use Rattle.mt_elements.specs.declared.kind.Kind.TheVariants.{Null, Counter, Queue, Paint, PaintSwitch, EtherMirror, Strip, CheckIPHeader, EtherEncap, DecIPTTL, SetIPDSCP, StoreIPAddress, GetIPAddress, IPMirror, Classifier, IPFilter, IPClassifier, Route}
+use Rattle.mt_elements.specs.Filters.{rules_of, ip_patterns_of}
+use Rattle.mt_elements.specs.Patterns.{patterns_of}
+use Rattle.mt_elements.specs.Routes.{hops_of}
+use Rattle.mt_text.specs.Address.{ethernet_address_of}
+use Rattle.mt_elements.specs.Arguments.{is_number, is_keyword, end_of}
 
 -- an element without arguments
 unfoldable pub plain : Kind → List (List ℕ) → Option Kind
@@ -38,8 +42,8 @@ fixed number kind _ = None
 unfoldable pub encap_of : List (List ℕ) → Option Kind
 encap_of (first ∷ second ∷ third ∷ []) = do
   ether_type ← number_up_to 65535 first
-  src ← mac_of second
-  dst ← mac_of third
+  src ← ethernet_address_of second
+  dst ← ethernet_address_of third
   (if ether_type == 2054 then None else Some (EtherEncap ether_type src dst))
 encap_of _ = None
 
@@ -92,3 +96,20 @@ or_else None other = other
 -- What a stateless class other than a Classifier stands for with these arguments, where it takes them.
 unfoldable pub stateless_kind : List ℕ → List (List ℕ) → Option Kind
 stateless_kind class arguments = or_else (plain_kind class arguments) (or_else (frame_kind class arguments) (datagram_kind class arguments))
+
+-- ---- classes whose arguments take memory
+
+-- one of the names of a route table
+unfoldable pub is_lookup : List ℕ → Bool
+is_lookup class =
+    bytes_eq class (codes "LookupIPRoute") || bytes_eq class (codes "StaticIPLookup") || bytes_eq class (codes "LinearIPLookup")
+    || bytes_eq class (codes "RadixIPLookup")
+
+-- What a stateless class stands for with these arguments, where it takes them.
+unfoldable pub kind_of : List ℕ → List (List ℕ) → Option Kind
+kind_of class arguments =
+    if bytes_eq class (codes "Classifier") then option_map Classifier (patterns_of arguments)
+    else if bytes_eq class (codes "IPFilter") then option_map IPFilter (rules_of arguments)
+    else if bytes_eq class (codes "IPClassifier") then option_map IPClassifier (ip_patterns_of arguments)
+    else if is_lookup class then option_map Route (hops_of arguments)
+    else stateless_kind class arguments

@@ -6,7 +6,7 @@ use Rattle.mt_lists.specs.Cuts.{index_of}
 use Rattle.mt_text.specs.Number.{number_up_to}
 use Rattle.mt_pattern.specs.Parser.{parse_of}
 use Rattle.mt_pattern.specs.declared.pattern.Pattern.{Pattern}
-use Rattle.mt_elements.specs.Patterns.{each}
+use Rattle.mt_lists.specs.Options.{each}
 use Rattle.mt_elements.specs.declared.rule.FilterAction.{FilterAction}
 use Rattle.mt_elements.specs.declared.rule.FilterAction.TheVariants.{Deny, Out}
 use Rattle.mt_elements.specs.declared.rule.Rule.{Rule}

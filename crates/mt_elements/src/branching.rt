@@ -1,15 +1,16 @@
 //! The second shape: a classifier with two patterns.
 ghost use Rattle.std.specs.Prelude.{◌≡◌, length, IfOk};
-ghost use Rattle.mt_elements.specs.Shape.{wires_to, classified_chain, is_reserved, is_one_name, is_discard, two_of, two_patterns, has_names, classified_of, classified_in};
+ghost use Rattle.mt_elements.specs.ShapeChains.{wires_to, classified_chain, is_reserved, is_one_name, is_discard, two_of, two_patterns, has_names, classified_of, classified_in};
 
-use crate::devices::{devices_of, output_of};
-use crate::reading::{Branching, as_branching};
-use crate::word::{arguments_of, device_of, is_class, text_of};
-use crate::{Chain, Kind, Patterns, Text, patterns_of};
-use mt_syntax::{Token, Use};
+use crate::device::{arguments_of, device_of, devices_of, is_class, output_of};
+use crate::shape_tokens::{Branching, as_branching};
+use crate::{Chain, Kind, Patterns, patterns_of};
+use mt_syntax::{Token, Use, word_bytes};
+use mt_text::Text;
 use std::alloc::{AllocError, Global};
 
-#[tactic(auto, unfolding(crate::specs::Shape::is_reserved))]
+/// Whether a name is that of a class of the second shape, so that it means something else.
+#[tactic(auto, unfolding(crate::specs::ShapeChains::is_reserved))]
 fn is_reserved(name: &[u8]) -> bool
     ensures { result ≡ is_reserved name.now }
 {
@@ -20,7 +21,7 @@ fn is_reserved(name: &[u8]) -> bool
 }
 
 /// Whether these are three times one name, and none that means something else.
-#[tactic(auto, unfolding(crate::specs::Shape::is_one_name))]
+#[tactic(auto, unfolding(crate::specs::ShapeChains::is_one_name))]
 fn is_one_name(name: &[u8], first: &[u8], second: &[u8]) -> bool
     ensures { result ≡ is_one_name name.now first.now second.now }
 {
@@ -28,7 +29,7 @@ fn is_one_name(name: &[u8], first: &[u8], second: &[u8]) -> bool
 }
 
 /// Whether a use is a `Discard` without an argument text.
-#[tactic(auto, unfolding(crate::specs::Shape::is_discard))]
+#[tactic(auto, unfolding(crate::specs::ShapeChains::is_discard))]
 fn is_discard(text: &[u8], made: &Use) -> bool
     ensures { result ≡ is_discard text.now made.now }
 {
@@ -38,19 +39,20 @@ fn is_discard(text: &[u8], made: &Use) -> bool
     }
 }
 
-#[tactic(auto, unfolding(crate::specs::Shape::has_names))]
+/// Whether the names of the second shape are one name, and its last use is a `Discard`.
+#[tactic(auto, unfolding(crate::specs::ShapeChains::has_names))]
 fn has_names(text: &[u8], shape: &Branching) -> bool
     ensures { result ≡ has_names text.now shape.now }
 {
     is_one_name(
-        text_of(text, &shape.name),
-        text_of(text, &shape.first),
-        text_of(text, &shape.second),
+        word_bytes(text, shape.name),
+        word_bytes(text, shape.first),
+        word_bytes(text, shape.second),
     ) && is_discard(text, &shape.last)
 }
 
 /// The patterns of a `Classifier` that has two.
-#[tactic(auto, unfolding(crate::specs::Shape::two_patterns))]
+#[tactic(auto, unfolding(crate::specs::ShapeChains::two_patterns))]
 fn two_patterns(alloc: Global, text: &[u8], made: &Use) -> Result<Option<Patterns>, AllocError>
     ensures { IfOk result (λ patterns. patterns ≡ two_patterns text.now made.now) }
 {
@@ -75,7 +77,8 @@ fn wires(alloc: Global, elements: &[u32]) -> Result<Vec<Option<(u32, u32)>>, All
         .collect(alloc)
 }
 
-#[tactic(auto, unfolding(crate::specs::Shape::classified_chain))]
+/// The chain of a classifier with two patterns: pattern 0 leads to the device, pattern 1 to the `Discard`.
+#[tactic(auto, unfolding(crate::specs::ShapeChains::classified_chain))]
 fn make_classified(
     alloc: Global,
     device: Text,
@@ -101,7 +104,8 @@ fn make_classified(
     Ok(Chain::new(kinds, outputs, devices, 1))
 }
 
-#[tactic(auto, unfolding(crate::specs::Shape::classified_of))]
+/// The chain of a text whose tokens are those of the second shape.
+#[tactic(auto, unfolding(crate::specs::ShapeChains::classified_of))]
 fn classified_of(alloc: Global, text: &[u8], shape: &Branching) -> Result<Option<Chain>, AllocError>
     ensures { IfOk result (λ chain. chain ≡ classified_of text.now shape.now) }
 {
@@ -121,7 +125,7 @@ fn classified_of(alloc: Global, text: &[u8], shape: &Branching) -> Result<Option
 }
 
 /// The chain of a text that is a line with a classifier.
-#[tactic(auto, unfolding(crate::specs::Shape::classified_in))]
+#[tactic(auto, unfolding(crate::specs::ShapeChains::classified_in))]
 pub(crate) fn read_classified(
     alloc: Global,
     text: &[u8],

@@ -1,9 +1,10 @@
 //! A chain: elements, the wires between them, and its devices.
 ghost use Rattle.std.specs.Prelude.{◌≡◌, ◌<◌, ◌^◌, length, slice_get, Some, map};
 ghost use Rattle.mt_elements.specs.Accepted.{CanRun};
-ghost use Rattle.mt_elements.specs.Chain.{next_of};
+ghost use Rattle.mt_elements.specs.ChainState.{next_of};
 
-use crate::{Kind, Text};
+use crate::Kind;
+use mt_text::Text;
 use std::marker::Model;
 
 /// A chain that was accepted, which the type keeps. Elements are numbered from 0, devices from 1: first those on which frames
@@ -18,10 +19,10 @@ pub struct Chain {
 
 impl Model for Chain {
     ghost use Rattle.std.specs.Prelude.{◌<◌, ◌^◌, length, map};
-    ghost use Rattle.mt_elements.specs.Parts.{Parts};
+    ghost use Rattle.mt_elements.specs.ChainState.{ChainState};
     ghost use Rattle.mt_elements.specs.Accepted.{CanRun};
 
-    ghost Value = { Parts };
+    ghost Value = { ChainState };
 
     ghost use Rattle.mt_pattern.specs.contracts.pattern.Pattern as pattern;
     ghost use Rattle.std.specs.Coded.{codes};

@@ -1,13 +1,16 @@
 //! The stateless classes, with the arguments that each takes.
-ghost use Rattle.std.specs.Prelude.{◌≡◌};
+ghost use Rattle.std.specs.Prelude.{◌≡◌, ◌<◌, ◌^◌, length, IfOk};
 ghost use Rattle.std.specs.List.{list_all};
 ghost use Rattle.mt_elements.specs.Arguments.{is_keyword};
-ghost use Rattle.mt_elements.specs.Classes.{plain, counter_of, queue_of, paint_of, fixed, encap_of, point_of, store_of, plain_kind, frame_kind, datagram_kind, stateless_kind};
+ghost use Rattle.mt_elements.specs.Classes.{plain, counter_of, queue_of, paint_of, fixed, encap_of, point_of, store_of, plain_kind, frame_kind, datagram_kind, stateless_kind, is_lookup, kind_of};
 
 use crate::Kind;
-use crate::argument::{end, is_keyword, is_number, mac};
-use mt_syntax::Text;
-use mt_text::{ipv4_address, number_up_to};
+use crate::argument::{end, is_keyword, is_number};
+use crate::classifier::patterns_of;
+use crate::filter::{ip_patterns_of, rules_of};
+use crate::lookup::hops_of;
+use mt_text::{Text, ethernet_address, ipv4_address, number_up_to};
+use std::alloc::{AllocError, Global};
 
 /// The EtherType of ARP, which no header that is put in front may have.
 const ARP: u64 = 0x0806;
@@ -23,6 +26,7 @@ fn plain(kind: Kind, arguments: &[Text]) -> Option<Kind>
     }
 }
 
+/// Whether each argument begins with an upper-case word.
 fn are_keywords(arguments: &[Text]) -> bool
     ensures { result ≡ list_all is_keyword arguments.now }
 {
@@ -97,8 +101,8 @@ fn encap(arguments: &[Text]) -> Option<Kind>
     match arguments {
         [first, second, third] => {
             let ether_type = number_up_to(65_535, first.bytes())?;
-            let src = mac(second.bytes())?;
-            let dst = mac(third.bytes())?;
+            let src = ethernet_address(second.bytes())?;
+            let dst = ethernet_address(third.bytes())?;
             if ether_type == ARP {
                 None
             } else {
@@ -210,4 +214,35 @@ pub fn stateless_kind(class: &[u8], arguments: &[Text]) -> Option<Kind>
         return Some(kind);
     }
     datagram_kind(class, arguments)
+}
+
+/// Whether a class is a route table.
+#[tactic(auto, unfolding(crate::specs::Classes::is_lookup))]
+fn is_lookup(class: &[u8]) -> bool
+    ensures { result ≡ is_lookup class.now }
+{
+    class == b"LookupIPRoute".as_slice()
+        || class == b"StaticIPLookup".as_slice()
+        || class == b"LinearIPLookup".as_slice()
+        || class == b"RadixIPLookup".as_slice()
+}
+
+/// What a stateless class stands for with these arguments. None where the class is another one, or an
+/// argument has not its form, is missing or is one too many.
+#[tactic(auto, unfolding(crate::specs::Classes::kind_of))]
+pub fn kind_of(alloc: Global, class: &[u8], arguments: &[Text]) -> Result<Option<Kind>, AllocError>
+    requires { length arguments.now < 2 ^ 32 }
+    ensures { IfOk result (λ found. found ≡ kind_of class.now arguments.now) }
+{
+    if class == b"Classifier".as_slice() {
+        Ok(patterns_of(alloc, arguments)?.map(Kind::Classifier))
+    } else if class == b"IPFilter".as_slice() {
+        Ok(rules_of(alloc, arguments)?.map(Kind::IPFilter))
+    } else if class == b"IPClassifier".as_slice() {
+        Ok(ip_patterns_of(alloc, arguments)?.map(Kind::IPClassifier))
+    } else if is_lookup(class) {
+        Ok(hops_of(alloc, arguments)?.map(Kind::Route))
+    } else {
+        Ok(stateless_kind(class, arguments))
+    }
 }

@@ -1,11 +1,12 @@
 //! The patterns of a `Classifier`.
 ghost use Rattle.std.specs.Prelude.{◌≡◌, IfOk, IfSome, ◌<◌, ◌^◌, length, map, option_map};
 ghost use Rattle.std.specs.List.{list_any};
-ghost use Rattle.mt_elements.specs.Patterns.{each, clause_of, is_operation, is_arp, may_stand, words_of, pattern_of, patterns_of};
+ghost use Rattle.mt_lists.specs.Options.{each};
+ghost use Rattle.mt_elements.specs.Patterns.{clause_of, is_operation, is_arp, may_stand, pattern_of, patterns_of};
 
-use crate::argument::hex_number;
+use crate::argument::words;
 use crate::{Clause, Patterns};
-use mt_syntax::Text;
+use mt_text::{Text, hexadecimal_of_length};
 use std::alloc::{AllocError, Global};
 
 /// A clause: `0/` and twelve hexadecimal digits, `6/` and twelve, `12/` and four, or `20/` and four.
@@ -14,24 +15,26 @@ fn clause(word: &[u8]) -> Option<Clause>
     ensures { result ≡ clause_of word.now }
 {
     if word.starts_with(b"0/") {
-        Some(Clause::EthDst(hex_number(12, &word[2..])?))
+        Some(Clause::EthDst(hexadecimal_of_length(12, &word[2..])?))
     } else if word.starts_with(b"6/") {
-        Some(Clause::EthSrc(hex_number(12, &word[2..])?))
+        Some(Clause::EthSrc(hexadecimal_of_length(12, &word[2..])?))
     } else if word.starts_with(b"12/") {
-        Some(Clause::EthType(hex_number(4, &word[3..])? as u16))
+        Some(Clause::EthType(hexadecimal_of_length(4, &word[3..])? as u16))
     } else if word.starts_with(b"20/") {
-        Some(Clause::ArpOp(hex_number(4, &word[3..])? as u16))
+        Some(Clause::ArpOp(hexadecimal_of_length(4, &word[3..])? as u16))
     } else {
         None
     }
 }
 
+/// Whether a clause asks for the operation of an ARP packet.
 fn is_operation(clause: &Clause) -> bool
     ensures { result ≡ is_operation clause.now }
 {
     matches!(clause, Clause::ArpOp(_))
 }
 
+/// Whether a clause asks for the EtherType of ARP, 0x0806.
 fn is_arp(clause: &Clause) -> bool
     ensures { result ≡ is_arp clause.now }
 {
@@ -61,13 +64,7 @@ fn may_stand(clauses: &[Clause]) -> bool
     !has_operation(clauses) || has_arp(clauses)
 }
 
-/// The parts of an argument between single spaces.
-pub(crate) fn words(alloc: Global, argument: &[u8]) -> Result<Vec<&[u8]>, AllocError>
-    ensures { IfOk result (λ words. map (λ x. x.now) words.items ≡ words_of argument.now) }
-{
-    argument.split(|byte| *byte == b' ').collect(alloc)
-}
-
+/// The clauses that words are, None where one is none.
 fn clauses(alloc: Global, words: &[&[u8]]) -> Result<Option<Vec<Clause>>, AllocError>
     ensures { IfOk result (λ found. option_map (λ v. v.items) found ≡ each clause_of (map (λ x. x.now) words.now)) }
 {
@@ -100,6 +97,7 @@ fn pattern(alloc: Global, argument: &[u8]) -> Result<Option<Vec<Clause>>, AllocE
     }
 }
 
+/// The patterns that arguments are, None where one is none.
 fn each_pattern(alloc: Global, arguments: &[Text]) -> Result<Option<Vec<Vec<Clause>>>, AllocError>
     ensures patterns { IfOk result (λ found. option_map (λ v. map (λ p. p.items) v.items) found ≡ each pattern_of arguments.now) }
     ensures count { IfOk result (λ found. IfSome found (λ v. length v.items ≡ length arguments.now)) }

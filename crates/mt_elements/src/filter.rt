@@ -1,17 +1,13 @@
 //! The arguments of `IPFilter` and `IPClassifier`.
 ghost use Rattle.std.specs.Prelude.{◌≡◌, ◌<◌, ◌^◌, length, IfOk, IfSome, option_map};
-ghost use Rattle.mt_lists.specs.Cuts.{index_of};
-ghost use Rattle.mt_elements.specs.Patterns.{each};
+ghost use Rattle.mt_lists.specs.Options.{each};
 ghost use Rattle.mt_elements.specs.Filters.{action_of, ip_pattern_of, rule_at, rule_of, rules_of, ip_patterns_of};
 
+use crate::argument::GREATEST_OUTPUT;
 use crate::rule::{FilterAction, IPPatterns, Rule, Rules};
 use mt_pattern::{Pattern, PatternFault};
-use mt_syntax::Text;
-use mt_text::number_up_to;
+use mt_text::{Text, index_of, number_up_to};
 use std::alloc::{AllocError, Global};
-
-/// The greatest number of an output that an argument may name.
-pub(crate) const GREATEST_OUT: u64 = 511;
 
 /// An action: `allow`, `deny`, `drop` or the number of an output.
 #[tactic(auto, unfolding(crate::specs::Filters::action_of))]
@@ -23,7 +19,7 @@ fn action(word: &[u8]) -> Option<FilterAction>
     } else if word == b"deny".as_slice() || word == b"drop".as_slice() {
         Some(FilterAction::Deny)
     } else {
-        let out = number_up_to(GREATEST_OUT, word)?;
+        let out = number_up_to(GREATEST_OUTPUT, word)?;
         Some(FilterAction::Out(out as u32))
     }
 }
@@ -40,20 +36,12 @@ fn ip_pattern(alloc: Global, argument: &[u8]) -> Result<Option<Pattern>, AllocEr
     }
 }
 
-/// The place of the first space.
-fn first_space(argument: &[u8]) -> Option<usize>
-    ensures place { result ≡ index_of 32 argument.now }
-    ensures within { IfSome result (λ i. i < length argument.now) }
-{
-    argument.iter().position(|byte| *byte == b' ')
-}
-
 /// A rule: an action, a space and a pattern.
 #[tactic(auto, unfolding(crate::specs::Filters::rule_at))]
 fn rule(alloc: Global, argument: &[u8]) -> Result<Option<Rule>, AllocError>
     ensures { IfOk result (λ found. found ≡ rule_of argument.now) }
 {
-    let Some(space) = first_space(argument) else {
+    let Some(space) = index_of(b' ', argument) else {
         return Ok(None);
     };
     let Some(action) = action(&argument[..space]) else {
@@ -65,6 +53,7 @@ fn rule(alloc: Global, argument: &[u8]) -> Result<Option<Rule>, AllocError>
     }
 }
 
+/// The rules that arguments are, None where one is none.
 fn each_rule(alloc: Global, arguments: &[Text]) -> Result<Option<Vec<Rule>>, AllocError>
     ensures { IfOk result (λ found. option_map (λ v. v.items) found ≡ each rule_of arguments.now) }
 {
@@ -92,6 +81,7 @@ pub(crate) fn rules_of(alloc: Global, arguments: &[Text]) -> Result<Option<Rules
     }
 }
 
+/// The patterns that arguments are, None where one is none.
 fn each_pattern(alloc: Global, arguments: &[Text]) -> Result<Option<Vec<Pattern>>, AllocError>
     ensures patterns { IfOk result (λ found. option_map (λ v. v.items) found ≡ each ip_pattern_of arguments.now) }
     ensures count { IfOk result (λ found. IfSome found (λ v. length v.items ≡ length arguments.now)) }

@@ -1,12 +1,12 @@
-//! The lines of a route table.
+//! The entries of a route table.
 ghost use Rattle.std.specs.Prelude.{◌≡◌};
 
 use std::marker::Model;
 
-/// A line of a route table. Addresses are in network order.
+/// An entry of a route table. Addresses are 32 bits in network order.
 #[derive(Clone, Copy, Debug, PartialEq, Eq)]
 pub struct Hop {
-    /// An address of the prefix.
+    /// The address of the prefix; as an entry is read, its bits past the length are 0.
     pub address: u32,
     /// How many high bits of the address the prefix has, 0 to 32; the others do not count.
     pub length: u8,
@@ -16,7 +16,7 @@ pub struct Hop {
     pub out: u32,
 }
 
-/// The lines of a route table in their order. A contract sees the list of them.
+/// The entries of a route table in their order. A contract sees the list of them.
 #[derive(Drop)]
 pub struct Hops {
     list: Vec<Hop>,
@@ -32,14 +32,14 @@ impl Model for Hops {
 }
 
 impl Hops {
-    /// These lines.
+    /// These entries.
     pub fn new(list: Vec<Hop>) -> Hops
         ensures { result ≡ list.items }
     {
         Hops { list }
     }
 
-    /// The lines, in their order.
+    /// The entries, in their order.
     pub fn as_slice(&self) -> &[Hop]
         ensures { result.now ≡ self.now }
     {

@@ -1,7 +1,6 @@
 //! What holds of every text that is read, and which texts are.
-ghost use Rattle.mt_elements.specs.Promises.{SmallIsAccepted};
-ghost use Rattle.mt_elements.specs.Spelling.{StraightIsRead, ClassifiedIsRead};
-ghost use Rattle.mt_elements.specs.Written.{RulesAreSpelled, HopsAreSpelled};
+ghost use Rattle.mt_elements.specs.ShapeSpelling.{SmallIsAccepted, StraightIsRead, ClassifiedIsRead};
+ghost use Rattle.mt_elements.specs.ArgumentSpelling.{RulesAreSpelled, HopsAreSpelled, LowBitsAreZero};
 
 /// The chain of a text is accepted: packets arrive on a device, each element takes the layers at which it
 /// is reached, and each of its outputs leads to a later element or is one that may lead nowhere.
@@ -25,8 +24,13 @@ pub fn rules_are_spelled()
     ensures { RulesAreSpelled }
 {}
 
-/// An argument of a route table is read as a line exactly where it is a prefix, perhaps a gateway, and an
+/// An argument of a route table is read as an entry exactly where it is a prefix, perhaps a gateway, and an
 /// output, with a space between two of them.
 pub fn hops_are_spelled()
     ensures { HopsAreSpelled }
+{}
+
+/// In the address of an entry of a route table the bits past the length of its prefix are 0.
+pub fn low_bits_are_0()
+    ensures { LowBitsAreZero }
 {}

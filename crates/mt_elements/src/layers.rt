@@ -2,7 +2,7 @@
 ghost use Rattle.std.specs.Prelude.{◌≡◌};
 ghost use Rattle.mt_packet.specs.Packet.{has_ethernet};
 ghost use Rattle.mt_elements.specs.Layers.{is_frame, is_bare, is_ip, takes, without_header, layer_behind};
-ghost use Rattle.mt_elements.specs.Shape.{line_fits};
+ghost use Rattle.mt_elements.specs.ShapeChains.{line_fits};
 
 use crate::Kind;
 use mt_packet::Layer;
@@ -59,6 +59,7 @@ pub fn takes(kind: &Kind, layer: Layer) -> bool
     }
 }
 
+/// The layer of a packet whose Ethernet header is taken away: what was checked stays so.
 fn without_header(layer: Layer) -> Layer
     ensures { result ≡ without_header layer }
 {

@@ -1,4 +1,6 @@
-//! The elements of a chain, and how a configuration's text becomes one.
+//! The elements of a chain, their arguments and layers, and how a configuration's text becomes a chain. `small`
+//! gives exactly the chain of a text, and a `Chain` is accepted by its type: each element takes the layers at
+//! which packets reach it. Read `kind.rt` first, then `specs/Layers.antt` and `specs/Accepted.antt`.
 #![tactic(auto)]
 
 mod argument;
@@ -6,34 +8,25 @@ mod branching;
 mod chain;
 mod class;
 mod classifier;
-mod comment;
-mod devices;
+mod device;
 mod filter;
 mod hop;
 mod kind;
-mod kinds;
-mod laws;
+pub mod laws;
 mod layers;
 mod line;
 mod lookup;
-mod reading;
 mod rule;
-mod shape;
+mod shape_tokens;
 #[cfg(test)]
 mod tests;
-mod text;
-mod word;
+mod two_shapes;
 
 pub use chain::Chain;
-pub use class::stateless_kind;
+pub use class::{kind_of, stateless_kind};
 pub use classifier::patterns_of;
 pub use hop::{Hop, Hops};
 pub use kind::{Clause, End, Kind, Patterns};
-pub use kinds::kind_of;
-pub use laws::{
-    classified_is_read, hops_are_spelled, rules_are_spelled, small_is_accepted, straight_is_read,
-};
 pub use layers::{layer_behind, takes};
 pub use rule::{FilterAction, IPPatterns, Rule, Rules};
-pub use shape::small;
-pub use text::Text;
+pub use two_shapes::small;

@@ -1,28 +1,30 @@
 //! The first shape: a straight line from a device to a device.
 ghost use Rattle.std.specs.Prelude.{◌≡◌, ◌<◌, ◌≤◌, ◌+◌, length, IfOk, IfSome, map, option_map};
-ghost use Rattle.mt_elements.specs.Middle.{AreMiddle};
-ghost use Rattle.mt_elements.specs.Patterns.{each};
-ghost use Rattle.mt_elements.specs.Shape.{kind_of, line_kinds, line_outputs, fitting_line, line_of, straight_of, straight_in};
+ghost use Rattle.mt_elements.specs.ShapeChains.{AreMiddle};
+ghost use Rattle.mt_lists.specs.Options.{each};
+ghost use Rattle.mt_elements.specs.ShapeChains.{kind_of, line_kinds, line_outputs, fitting_line, line_of, straight_of, straight_in};
 
-use crate::devices::{devices_of, output_of};
+use crate::device::{arguments_of, device_of, devices_of, output_of};
 use crate::layers::line_fits;
-use crate::reading::uses;
-use crate::word::{arguments_of, device_of, text_of};
-use crate::{Chain, Kind, Text, stateless_kind};
+use crate::shape_tokens::uses;
+use crate::{Chain, Kind, stateless_kind};
 use mt_packet::Layer;
-use mt_syntax::{Token, Use};
+use mt_syntax::{Token, Use, word_bytes};
+use mt_text::Text;
 use std::alloc::{AllocError, Global};
 
 /// The greatest number of elements of a chain.
 const MOST: u32 = 512;
 
+/// The kind of a use between the devices of a line, None where its class does not take its arguments.
 fn kind_of(alloc: Global, text: &[u8], made: &Use) -> Result<Option<Kind>, AllocError>
     ensures { IfOk result (λ kind. kind ≡ kind_of text.now made.now) }
 {
     let arguments = arguments_of(alloc, text, made)?;
-    Ok(stateless_kind(text_of(text, &made.class), &arguments))
+    Ok(stateless_kind(word_bytes(text, made.class), &arguments))
 }
 
+/// The kinds of uses, None where one has none.
 fn kinds_of(alloc: Global, text: &[u8], uses: &[Use]) -> Result<Option<Vec<Kind>>, AllocError>
     ensures kinds { IfOk result (λ found. option_map (λ v. v.items) found ≡ each (kind_of text.now) uses.now) }
     ensures count { IfOk result (λ found. IfSome found (λ v. length v.items ≡ length uses.now)) }
@@ -60,7 +62,8 @@ fn line_outputs(alloc: Global, more: u32) -> Result<Vec<Vec<Option<(u32, u32)>>>
     Ok(outputs)
 }
 
-#[tactic(auto, unfolding(crate::specs::Shape::fitting_line, crate::specs::Shape::line_chain))]
+/// The chain of a line, None where an element does not take the layer at which it is reached.
+#[tactic(auto, unfolding(crate::specs::ShapeChains::fitting_line, crate::specs::ShapeChains::line_chain))]
 fn fitting_line(
     alloc: Global,
     device: Text,
@@ -81,7 +84,8 @@ fn fitting_line(
     Ok(Some(Chain::new(all, outputs, devices, 1)))
 }
 
-#[tactic(auto, unfolding(crate::specs::Shape::line_of))]
+/// The chain of a line of uses, the first and the last of which name its devices.
+#[tactic(auto, unfolding(crate::specs::ShapeChains::line_of))]
 fn line_of(
     alloc: Global,
     text: &[u8],
@@ -104,7 +108,8 @@ fn line_of(
     fitting_line(alloc, device, kinds, out)
 }
 
-#[tactic(auto, unfolding(crate::specs::Shape::straight_of))]
+/// The chain of the uses of a whole text.
+#[tactic(auto, unfolding(crate::specs::ShapeChains::straight_of))]
 fn straight_of(alloc: Global, text: &[u8], uses: &[Use]) -> Result<Option<Chain>, AllocError>
     requires { length uses.now ≤ 512 }
     ensures { IfOk result (λ chain. chain ≡ straight_of text.now uses.now) }
@@ -122,7 +127,7 @@ fn straight_of(alloc: Global, text: &[u8], uses: &[Use]) -> Result<Option<Chain>
 }
 
 /// The chain of a text that is a straight line.
-#[tactic(auto, unfolding(crate::specs::Shape::straight_in))]
+#[tactic(auto, unfolding(crate::specs::ShapeChains::straight_in))]
 pub(crate) fn read_straight(
     alloc: Global,
     text: &[u8],

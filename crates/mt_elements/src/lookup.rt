@@ -1,17 +1,23 @@
 //! The arguments of a route table.
 ghost use Rattle.std.specs.Prelude.{◌≡◌, ◌<◌, ◌≤◌, length, map, IfOk, IfSome, option_map};
-ghost use Rattle.mt_lists.specs.Cuts.{index_of};
-ghost use Rattle.mt_elements.specs.Patterns.{each};
-ghost use Rattle.mt_elements.specs.Routes.{net_at, net_of, hop_in, hop_of, hops_of};
+ghost use Rattle.mt_lists.specs.Options.{each};
+ghost use Rattle.mt_elements.specs.Routes.{network_of, net_at, net_of, hop_in, hop_of, hops_of};
 
-use crate::classifier::words;
-use crate::filter::GREATEST_OUT;
+use crate::argument::{GREATEST_OUTPUT, words};
 use crate::hop::{Hop, Hops};
-use mt_syntax::Text;
-use mt_text::{decimal_up_to, index_of, ipv4_address, number_up_to};
+use mt_text::{Text, decimal_up_to, index_of, ipv4_address, number_up_to};
 use std::alloc::{AllocError, Global};
 
-/// A prefix, as an address and a length: an address, `/` and 0 to 32, or an address alone.
+/// The address with 0 in the bits past a length.
+fn network_of(address: u64, length: u64) -> u64
+    requires { length ≤ 32 }
+    ensures { result ≡ network_of address length }
+{
+    address - address % 2u64.pow((32 - length) as u32)
+}
+
+/// A prefix, as its address and its length: an address, `/` and 0 to 32, where the bits of the address past
+/// the length are taken as 0, or an address alone.
 #[tactic(auto, unfolding(crate::specs::Routes::net_at))]
 fn net(word: &[u8]) -> Option<(u64, u64)>
     ensures value { result ≡ net_of word.now }
@@ -26,12 +32,12 @@ fn net(word: &[u8]) -> Option<(u64, u64)>
         Some(slash) => {
             let address = ipv4_address(&word[..slash])?;
             let length = decimal_up_to(32, &word[slash + 1..])?;
-            Some((address, length))
+            Some((network_of(address, length), length))
         }
     }
 }
 
-/// A line of a route table by its parts: a prefix, perhaps a gateway, and an output.
+/// An entry of a route table by its words: a prefix, perhaps a gateway, and an output.
 #[tactic(auto, unfolding(crate::specs::Routes::hop_in))]
 fn hop_in(words: &[&[u8]]) -> Option<Hop>
     ensures { result ≡ hop_in (map (λ x. x.now) words.now) }
@@ -39,7 +45,7 @@ fn hop_in(words: &[&[u8]]) -> Option<Hop>
     match words {
         [prefix, last] => {
             let (address, length) = net(prefix)?;
-            let out = number_up_to(GREATEST_OUT, last)?;
+            let out = number_up_to(GREATEST_OUTPUT, last)?;
             Some(Hop {
                 address: address as u32,
                 length: length as u8,
@@ -50,7 +56,7 @@ fn hop_in(words: &[&[u8]]) -> Option<Hop>
         [prefix, second, last] => {
             let (prefix, length) = net(prefix)?;
             let gateway = ipv4_address(second)?;
-            let out = number_up_to(GREATEST_OUT, last)?;
+            let out = number_up_to(GREATEST_OUTPUT, last)?;
             Some(Hop {
                 address: prefix as u32,
                 length: length as u8,
@@ -62,7 +68,7 @@ fn hop_in(words: &[&[u8]]) -> Option<Hop>
     }
 }
 
-/// A line of a route table.
+/// An entry of a route table.
 fn hop(alloc: Global, argument: &[u8]) -> Result<Option<Hop>, AllocError>
     ensures { IfOk result (λ found. found ≡ hop_of argument.now) }
 {
@@ -70,6 +76,7 @@ fn hop(alloc: Global, argument: &[u8]) -> Result<Option<Hop>, AllocError>
     Ok(hop_in(&words))
 }
 
+/// The entries that arguments are, None where one is none.
 fn each_hop(alloc: Global, arguments: &[Text]) -> Result<Option<Vec<Hop>>, AllocError>
     ensures { IfOk result (λ found. option_map (λ v. v.items) found ≡ each hop_of arguments.now) }
 {
@@ -83,7 +90,7 @@ fn each_hop(alloc: Global, arguments: &[Text]) -> Result<Option<Vec<Hop>>, Alloc
     Ok(Some(hops))
 }
 
-/// The lines that a route table has by its arguments. None where an argument is no line, or there is none.
+/// The entries that a route table has by its arguments. None where an argument is no entry, or there is none.
 #[tactic(auto, unfolding(crate::specs::Routes::hops_of))]
 pub(crate) fn hops_of(alloc: Global, arguments: &[Text]) -> Result<Option<Hops>, AllocError>
     ensures { IfOk result (λ found. found ≡ hops_of arguments.now) }

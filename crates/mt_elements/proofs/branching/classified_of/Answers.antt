@@ -1,5 +1,5 @@
 use Rattle.std.proofs.Common.{sym, ◌∙◌}
-use Rattle.mt_elements.proofs.Acceptance.{both_patterns}
+use Rattle.mt_elements.proofs.TextsAccepted.{both_patterns}
 use Rattle.mt_elements.proofs.branching.classified_of.Goals as goal
 
 pub make_classified-requires : goal.make_classified-requires

@@ -1,5 +1,5 @@
 use Rattle.std.proofs.Common.{rules}
-use Rattle.mt_elements.proofs.Built.{branches_can_run}
+use Rattle.mt_elements.proofs.ChainsAccepted.{branches_can_run}
 use Rattle.mt_elements.proofs.branching.make_classified.Goals as goal
 
 pub new-requires-clause-accepted : goal.new-requires-clause-accepted

@@ -1,7 +1,8 @@
 use Rattle.std.proofs.Common.{ℕ, List, [], arith, sym, ◌∙◌}
 use denote.Ref.{Bor}
-use Rattle.mt_elements.specs.Patterns.{each, clause_of}
-use Rattle.mt_elements.proofs.Each.{each_begins, each_more, each_stops, each_done, each-map}
+use Rattle.mt_lists.specs.Options.{each}
+use Rattle.mt_elements.specs.Patterns.{clause_of}
+use Rattle.mt_lists.proofs.Each.{each_begins, each_more, each_stops, each_done, each-map}
 use Rattle.mt_elements.proofs.classifier.clauses.Goals as goal
 
 pub loop-word-init : goal.loop-word-init

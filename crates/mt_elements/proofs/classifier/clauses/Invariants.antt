@@ -1,6 +1,7 @@
 use Rattle.std.proofs.Common.{◌≡◌, ◌++◌, drop}
 use Rattle.std.specs.Prelude.{option_map}
-use Rattle.mt_elements.specs.Patterns.{each, clause_of}
+use Rattle.mt_lists.specs.Options.{each}
+use Rattle.mt_elements.specs.Patterns.{clause_of}
 use Rattle.mt_elements.proofs.classifier.clauses.Given as goal
 
 abbrev pub invariant-loop-word : goal.invariant-loop-word

@@ -3,8 +3,9 @@ use Rattle.std.specs.Prelude.{option_map}
 use Rattle.std.specs.declared.alloc.Global.{Global}
 use Rattle.std.proofs.lemmas.List.{map-append}
 use Rattle.mt_elements.specs.declared.kind.Clause.{Clause}
-use Rattle.mt_elements.specs.Patterns.{each, pattern_of}
-use Rattle.mt_elements.proofs.Each.{each_begins, each_more, each_stops, each_done}
+use Rattle.mt_lists.specs.Options.{each}
+use Rattle.mt_elements.specs.Patterns.{pattern_of}
+use Rattle.mt_lists.proofs.Each.{each_begins, each_more, each_stops, each_done}
 use Rattle.mt_elements.proofs.classifier.each_pattern.Goals as goal
 
 pub loop-argument-init : goal.loop-argument-init

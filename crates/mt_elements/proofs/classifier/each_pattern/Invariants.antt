@@ -1,6 +1,7 @@
 use Rattle.std.proofs.Common.{◌≡◌, ◌++◌, length, map, drop}
 use Rattle.std.specs.Prelude.{option_map}
-use Rattle.mt_elements.specs.Patterns.{each, pattern_of}
+use Rattle.mt_lists.specs.Options.{each}
+use Rattle.mt_elements.specs.Patterns.{pattern_of}
 use Rattle.mt_elements.proofs.classifier.each_pattern.Given as goal
 
 abbrev pub invariant-loop-argument : goal.invariant-loop-argument

@@ -1,7 +1,7 @@
 use Rattle.std.proofs.Common.{length, arith, sym, ap, ◌∙◌}
-use Rattle.mt_elements.specs.Patterns.{each}
+use Rattle.mt_lists.specs.Options.{each}
 use Rattle.mt_elements.specs.Filters.{ip_pattern_of}
-use Rattle.mt_elements.proofs.Each.{each_begins, each_more, each_stops, each_done}
+use Rattle.mt_lists.proofs.Each.{each_begins, each_more, each_stops, each_done}
 use Rattle.mt_elements.proofs.filter.each_pattern.Goals as goal
 
 pub loop-argument-init : goal.loop-argument-init

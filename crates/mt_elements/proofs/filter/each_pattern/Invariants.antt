@@ -1,6 +1,6 @@
 use Rattle.std.proofs.Common.{◌≡◌, ◌++◌, length, drop}
 use Rattle.std.specs.Prelude.{option_map}
-use Rattle.mt_elements.specs.Patterns.{each}
+use Rattle.mt_lists.specs.Options.{each}
 use Rattle.mt_elements.specs.Filters.{ip_pattern_of}
 use Rattle.mt_elements.proofs.filter.each_pattern.Given as goal
 

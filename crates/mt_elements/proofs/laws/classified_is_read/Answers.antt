@@ -1,4 +1,4 @@
-use Rattle.mt_elements.proofs.Spelled.{classified_read}
+use Rattle.mt_elements.proofs.ShapesRead.{classified_read}
 use Rattle.mt_elements.proofs.laws.classified_is_read.Goals as goal
 
 pub returns : goal.returns

@@ -1,4 +1,4 @@
-use Rattle.mt_elements.proofs.Written.{hop_spelled}
+use Rattle.mt_elements.proofs.ArgumentsSpelled.{hop_spelled}
 use Rattle.mt_elements.proofs.laws.hops_are_spelled.Goals as goal
 
 pub returns : goal.returns

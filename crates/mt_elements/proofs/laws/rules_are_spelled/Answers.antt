@@ -1,4 +1,4 @@
-use Rattle.mt_elements.proofs.Written.{rule_spelled}
+use Rattle.mt_elements.proofs.ArgumentsSpelled.{rule_spelled}
 use Rattle.mt_elements.proofs.laws.rules_are_spelled.Goals as goal
 
 pub returns : goal.returns

@@ -1,4 +1,4 @@
-use Rattle.mt_elements.proofs.Acceptance.{all_accepted}
+use Rattle.mt_elements.proofs.TextsAccepted.{all_accepted}
 use Rattle.mt_elements.proofs.laws.small_is_accepted.Goals as goal
 
 pub returns : goal.returns

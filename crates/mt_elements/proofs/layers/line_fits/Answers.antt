@@ -1,5 +1,5 @@
 use Rattle.std.proofs.Common.{◌∙◌, sym, arith}
-use Rattle.mt_elements.proofs.Lines.{fits_more, fits_not, fits_all}
+use Rattle.mt_elements.proofs.LineWalked.{fits_more, fits_not, fits_all}
 use Rattle.mt_elements.proofs.layers.line_fits.Goals as goal
 
 pub returns-then-not-takes : goal.returns-then-not-takes

@@ -1,5 +1,5 @@
 use Rattle.std.proofs.Common.{◌≡◌, drop}
-use Rattle.mt_elements.specs.Shape.{line_fits}
+use Rattle.mt_elements.specs.ShapeChains.{line_fits}
 use Rattle.mt_elements.proofs.layers.line_fits.Given as goal
 
 abbrev pub invariant-loop-kind : goal.invariant-loop-kind

@@ -1,7 +1,7 @@
 use Rattle.std.proofs.Common.{◌≡◌, ◌+◌, true, sym, ◌∙◌, ap, subst}
 use Rattle.mt_packet.specs.declared.layer.Layer.TheVariants.{Frame}
-use Rattle.mt_elements.specs.Shape.{line_fits, line_outputs}
-use Rattle.mt_elements.proofs.Built.{line_can_run}
+use Rattle.mt_elements.specs.ShapeChains.{line_fits, line_outputs}
+use Rattle.mt_elements.proofs.ChainsAccepted.{line_can_run}
 use Rattle.mt_elements.proofs.line.fitting_line.Goals as goal
 
 pub new-requires-clause-accepted : goal.new-requires-clause-accepted

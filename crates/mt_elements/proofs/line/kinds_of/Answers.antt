@@ -1,7 +1,7 @@
 use Rattle.std.proofs.Common.{arith, None, sym, ap, length, ◌∙◌}
-use Rattle.mt_elements.specs.Patterns.{each}
-use Rattle.mt_elements.specs.Shape.{kind_of}
-use Rattle.mt_elements.proofs.Each.{each_begins, each_more, each_stops, each_done}
+use Rattle.mt_lists.specs.Options.{each}
+use Rattle.mt_elements.specs.ShapeChains.{kind_of}
+use Rattle.mt_lists.proofs.Each.{each_begins, each_more, each_stops, each_done}
 use Rattle.mt_elements.proofs.line.kinds_of.Goals as goal
 
 pub loop-made-init : goal.loop-made-init

@@ -1,7 +1,7 @@
 use Rattle.std.proofs.Common.{◌≡◌, ◌++◌, length, drop}
 use Rattle.std.specs.Prelude.{option_map}
-use Rattle.mt_elements.specs.Patterns.{each}
-use Rattle.mt_elements.specs.Shape.{kind_of}
+use Rattle.mt_lists.specs.Options.{each}
+use Rattle.mt_elements.specs.ShapeChains.{kind_of}
 use Rattle.mt_elements.proofs.line.kinds_of.Given as goal
 
 abbrev pub invariant-loop-made : goal.invariant-loop-made

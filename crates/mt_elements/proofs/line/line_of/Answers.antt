@@ -1,5 +1,5 @@
 use Rattle.std.proofs.Common.{sym, ◌∙◌, ap, option_map}
-use Rattle.mt_elements.proofs.Acceptance.{kinds_middle}
+use Rattle.mt_elements.proofs.TextsAccepted.{kinds_middle}
 use Rattle.mt_elements.proofs.line.line_of.Goals as goal
 
 pub fitting_line-requires-clause-middle : goal.fitting_line-requires-clause-middle

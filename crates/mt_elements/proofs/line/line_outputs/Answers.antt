@@ -1,7 +1,7 @@
 use Rattle.std.proofs.Common.{◌≡◌, ◌∙◌, ap, arith, map, ◌++◌, ◌-◌, ℕ, List, Vec, Option}
 use Rattle.std.specs.declared.alloc.Global.{Global}
-use Rattle.mt_elements.specs.Shape.{line_outputs}
-use Rattle.mt_elements.proofs.Lines.{outputs_more, outputs_done}
+use Rattle.mt_elements.specs.ShapeChains.{line_outputs}
+use Rattle.mt_elements.proofs.LineWalked.{outputs_more, outputs_done}
 use Rattle.mt_elements.proofs.line.line_outputs.Goals as goal
 
 pub loop-element-init : goal.loop-element-init

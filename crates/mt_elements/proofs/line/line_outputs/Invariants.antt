@@ -1,5 +1,5 @@
 use Rattle.std.proofs.Common.{◌≡◌, ◌-◌, ◌++◌, map}
-use Rattle.mt_elements.specs.Shape.{line_outputs}
+use Rattle.mt_elements.specs.ShapeChains.{line_outputs}
 use Rattle.mt_elements.proofs.line.line_outputs.Given as goal
 
 abbrev pub invariant-loop-element : goal.invariant-loop-element

@@ -1,6 +1,6 @@
 use Rattle.std.proofs.Common.{◌≡◌, ◌++◌, drop}
 use Rattle.std.specs.Prelude.{option_map}
-use Rattle.mt_elements.specs.Patterns.{each}
+use Rattle.mt_lists.specs.Options.{each}
 use Rattle.mt_elements.specs.Routes.{hop_of}
 use Rattle.mt_elements.proofs.lookup.each_hop.Given as goal
 
