@@ -2,7 +2,7 @@
 use Rattle.std.proofs.Common.{◌≡◌, ℕ, ◌<◌, ◌≤◌, true, List, [], length, Some, sym, ◌∙◌, subst}
 use Rattle.std.specs.Prelude.{IfSome}
 use Rattle.mt_io.specs.Files.{IsSame, IsSameBut, NeverFell}
-use Rattle.mt_io.proofs.Laws.{then_rose, same_twice, same_but_twice, same_but, never_fell_twice}
+use Rattle.mt_io.specs.Laws.{then_rose, same_twice, same_but_twice, same_but, never_fell_twice}
 use Rattle.mt_elements.specs.ChainState.{ChainState}
 use Rattle.mt_pcap.specs.Capture as captures
 use Rattle.metron.specs.Command.{Words, command_of, AreDistinct}

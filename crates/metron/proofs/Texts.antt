@@ -8,7 +8,7 @@ use Rattle.std.proofs.lemmas.Grind.{flat_map-append}
 use Rattle.std.proofs.lemmas.List.{append-nil, length-append, length-drop}
 use Rattle.mt_io.specs.Files.{Gains}
 use Rattle.mt_io.specs.Copy.{GainsFront}
-use Rattle.mt_io.proofs.Laws.{gains_nothing, gains_twice, gains_then_front, gains_front, front_of_nothing}
+use Rattle.mt_io.specs.Laws.{gains_nothing, gains_twice, gains_then_front, gains_front, front_of_nothing}
 use Rattle.mt_packet.specs.Packet.{PacketState}
 use Rattle.mt_packet.specs.declared.frame.Stamped.{Stamped}
 use Rattle.mt_pcap.specs.Text.{header_text, record_text, capture_text}

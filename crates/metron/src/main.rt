@@ -9,7 +9,7 @@ mod serve;
 #[cfg(test)]
 mod tests;
 
-use mt_io::RealFiles;
+use mt_io::{Buffered, RealFiles};
 pub use outcome::{Fault, FileId, Outcome};
 pub use run::metron;
 use std::alloc::Global;
@@ -34,7 +34,7 @@ fn main(rt: HostRuntime) -> ExitCode {
         Err(error) if error.kind() == ErrorKind::InvalidData => return ExitCode::from(MISUSED),
         Err(_) => return ExitCode::from(NO_MEMORY),
     };
-    let mut files = RealFiles::new(&rt, rt.alloc());
+    let mut files = Buffered::new(rt.alloc(), RealFiles::new(&rt, rt.alloc()));
     let outcome = metron(rt.alloc(), &words, &mut files);
     match files.finish() {
         Ok(()) => ExitCode::from(outcome.status),

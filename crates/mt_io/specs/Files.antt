@@ -1,10 +1,10 @@
 -- What calls do to files. A file is named by the bytes of its name; what it holds to be read, or has
--- been given to write, is `None` where it is not told.
+-- been given to write, is `None` where it is not told. Whether it is told does not change.
 use Rattle.std.specs.Prelude.{◌≡◌, ◌≢◌, ◌≤◌, ℕ, ◌+◌, ◌-◌, ◌^◌, min, List, [], ◌++◌, Option, Some, None, ⊤}
 
 -- these bytes were taken from the front of what is held
 abbrev pub Takes : Option (List ℕ) → List ℕ → Option (List ℕ) → Type 0
-Takes None bytes after = ⊤
+Takes None bytes after = after ≡ None
 Takes (Some all) bytes after = (rest : List ℕ) × (after ≡ Some rest) × (all ≡ bytes ++ rest)
 
 -- no held byte is left
@@ -14,7 +14,7 @@ IsAtEnd (Some all) = all ≡ []
 
 -- these bytes were added behind what is written
 abbrev pub Gains : Option (List ℕ) → List ℕ → Option (List ℕ) → Type 0
-Gains None bytes after = ⊤
+Gains None bytes after = after ≡ None
 Gains (Some before) bytes after = after ≡ Some (before ++ bytes)
 
 -- A count rose. One at the end of its type, 2^64 - 1, is taken to have risen.

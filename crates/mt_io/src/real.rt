@@ -1,67 +1,58 @@
-//! The files of the system: the trusted edge, of whose content no contract speaks.
-ghost use Rattle.std.specs.Prelude.{◌≡◌, ◌<◌, ◌≤◌, List, ℕ, None, length, IfOk, OnErr};
-ghost use Rattle.mt_io.specs.Files.{Rose, IsSame, NeverFell};
+//! The files of the system: the trusted edge, of whose content no contract speaks. Each call is one call of
+//! the system, besides the opening of a file.
+ghost use Rattle.std.specs.Prelude.{◌≡◌, ◌≤◌, List, ℕ, None, length, IfOk};
 
 use crate::{Failed, Files};
-use std::alloc::{AllocError, Global};
+use std::alloc::Global;
 use std::collections::BTreeMap;
-use std::fs::File;
-use std::io::{BufReader, BufWriter, Read, Write};
+use std::fs::{File, OpenFile, OpenOptions};
+use std::io;
+use std::io::{ErrorKind, Read, Write};
+use std::os::unix::fs::MetadataExt;
 use std::rt::Files as SystemFiles;
-use std::{io, mem};
-
-/// How many bytes of a name are read or written by one call of the system.
-const BUFFER: usize = 1 << 16;
 
 /// The name of the standard output.
 const OUTPUT: &str = "-";
 
-// A file that is being read. Once its end was met no call of the system asks again.
+/// What tells one regular file from another, whatever paths lead to it.
+#[derive(Clone, Copy, PartialEq, Eq)]
+struct Identity {
+    device: u64,
+    inode: u64,
+}
+
+/// A file that is being read. Once its end was met the system is not asked again.
 #[derive(Drop)]
 struct Source<F: Read + Drop> {
-    reader: BufReader<F>,
+    file: F,
+    identity: Option<Identity>,
     is_at_end: bool,
 }
 
-// Where the bytes that are written to a name go.
+/// A file that is being written.
 #[derive(Drop)]
-enum Sink<R: SystemFiles> {
-    File(R::File),
-    Output(R),
+struct Sink<F: Write + Drop> {
+    file: F,
+    identity: Option<Identity>,
 }
 
-impl<R: SystemFiles + Print> Write for Sink<R> {
-    fn write(&mut self, piece: &[u8]) -> io::Result<usize> {
-        match self {
-            Sink::File(file) => file.write(piece),
-            Sink::Output(system) => system.write_some(piece),
-        }
-    }
-
-    fn flush(&mut self) -> io::Result<()> {
-        match self {
-            Sink::File(file) => file.flush(),
-            Sink::Output(_) => Ok(()),
-        }
-    }
-}
-
-/// The files of the system by their paths; `-` is the standard output. A file stays open from its
-/// first read or write on, and its first write creates or empties it. Reads and writes go through
-/// buffers of 64 KiB a name, so what was written last reaches the system at `finish`.
+/// The files of the system by their paths; `-` is the standard output. A file stays open from its first
+/// read or write on, and its first write creates or empties it. That write fails where the path leads to a
+/// regular file that was opened for reading or that is another output, which then stays as it was.
 ///
-/// It tells no content. Each failure raises one number, which stands still at 2^64 - 1 and is each of
-/// the counts of every name; a call that finds no memory is a failure too.
+/// It has no buffers: `Buffered` gives it some. It tells no content. Each failure raises one number, which
+/// stands still at 2^64 - 1 and is each of the counts of every name; a call that finds no memory is a
+/// failure too.
 #[derive(Drop)]
-pub struct RealFiles<R: SystemFiles + Print + Clone + Drop> {
+pub struct RealFiles<R: SystemFiles + Print + Drop> {
     system: R,
     alloc: Global,
     sources: BTreeMap<String, Source<R::File>>,
-    sinks: BTreeMap<String, BufWriter<Sink<R>>>,
+    sinks: BTreeMap<String, Sink<R::File>>,
     failures: u64,
 }
 
-impl<R: SystemFiles + Print + Clone + Drop> RealFiles<R> {
+impl<R: SystemFiles + Print + Drop> RealFiles<R> {
     /// No file is open yet.
     pub fn new(system: R, alloc: Global) -> RealFiles<R>
         ensures read_faults { (name : List ℕ) → ⟦<RealFiles<R> as Files>⟧.read_faults result name ≡ 0 }
@@ -75,27 +66,9 @@ impl<R: SystemFiles + Print + Clone + Drop> RealFiles<R> {
             failures: 0,
         }
     }
-
-    /// Writes what is left in every buffer and closes the files that were written. The error is the
-    /// name of a file at which that failed, the first in the order of the names; the others are
-    /// written all the same. A write of a name after it begins the file anew.
-    pub fn finish(&mut self) -> Result<(), String>
-        ensures failed { OnErr result ((name : List ℕ) → Rose (⟦<RealFiles<R> as Files>⟧.write_faults self.old name) (⟦<RealFiles<R> as Files>⟧.write_faults self.new name)) }
-        ensures read_faults { NeverFell (⟦<RealFiles<R> as Files>⟧.read_faults self.old) (⟦<RealFiles<R> as Files>⟧.read_faults self.new) }
-        ensures write_faults { NeverFell (⟦<RealFiles<R> as Files>⟧.write_faults self.old) (⟦<RealFiles<R> as Files>⟧.write_faults self.new) }
-    {
-        let sinks = mem::replace(&mut self.sinks, BTreeMap::new(self.alloc));
-        match first_unwritten(sinks) {
-            None => Ok(()),
-            Some(name) => {
-                self.failures = self.failures.saturating_add(1);
-                Err(name)
-            }
-        }
-    }
 }
 
-impl<R: SystemFiles + Print + Clone + Drop> Files for RealFiles<R> {
+impl<R: SystemFiles + Print + Drop> Files for RealFiles<R> {
     ghost held = { λ _ _. None };
 
     ghost written = { λ _ _. None };
@@ -117,7 +90,19 @@ impl<R: SystemFiles + Print + Clone + Drop> Files for RealFiles<R> {
 
     /// Writes on in a file, which the first write of its name creates or empties.
     fn write(&mut self, name: &str, piece: &[u8]) -> Result<usize, Failed> {
-        match write_to(&self.system, self.alloc, &mut self.sinks, name, piece) {
+        let written = if name == OUTPUT {
+            self.system.write_some(piece)
+        } else {
+            write_to(
+                &self.system,
+                self.alloc,
+                &self.sources,
+                &mut self.sinks,
+                name,
+                piece,
+            )
+        };
+        match written {
             Ok(count) if count > 0 || piece.is_empty() => Ok(count),
             _ => {
                 self.failures = self.failures.saturating_add(1);
@@ -136,17 +121,19 @@ fn read_from<R: SystemFiles>(
 ) -> io::Result<usize>
     ensures { IfOk result (λ n. n ≤ length buf.old) }
 {
-    if let Some(source) = sources.get_mut(name) {
-        return source.read(buf);
+    if !sources.contains_key(name) {
+        let file = File::open(system, name)?;
+        let source = Source {
+            identity: identity_of(&file)?,
+            file,
+            is_at_end: false,
+        };
+        sources.insert(String::from_str(alloc, name)?, source)?;
     }
-    let reader = BufReader::with_capacity(alloc, BUFFER, File::open(system, name)?)?;
-    let mut source = Source {
-        reader,
-        is_at_end: false,
-    };
-    let count = source.read(buf)?;
-    sources.insert(String::from_str(alloc, name)?, source)?;
-    Ok(count)
+    match sources.get_mut(name) {
+        Some(source) => source.read(buf),
+        None => Err(io::Error::from(ErrorKind::NotFound)),
+    }
 }
 
 impl<F: Read + Drop> Source<F> {
@@ -156,46 +143,61 @@ impl<F: Read + Drop> Source<F> {
         if self.is_at_end || buf.is_empty() {
             return Ok(0);
         }
-        let count = self.reader.read(buf)?;
+        let count = self.file.read(buf)?;
         self.is_at_end = count == 0;
         Ok(count)
     }
 }
 
-fn write_to<R: SystemFiles + Print + Clone + Drop>(
+fn write_to<R: SystemFiles>(
     system: &R,
     alloc: Global,
-    sinks: &mut BTreeMap<String, BufWriter<Sink<R>>>,
+    sources: &BTreeMap<String, Source<R::File>>,
+    sinks: &mut BTreeMap<String, Sink<R::File>>,
     name: &str,
     piece: &[u8],
 ) -> io::Result<usize>
     ensures { IfOk result (λ n. n ≤ length piece.now) }
 {
-    if let Some(writer) = sinks.get_mut(name) {
-        return writer.write(piece);
+    if !sinks.contains_key(name) {
+        let file = OpenOptions::new()
+            .write(true)
+            .create(true)
+            .open(system, name)?;
+        let identity = identity_of(&file)?;
+        if let Some(this) = identity {
+            if is_open(sources, sinks, this) {
+                return Err(io::Error::from(ErrorKind::AlreadyExists));
+            }
+            file.set_len(0)?;
+        }
+        sinks.insert(String::from_str(alloc, name)?, Sink { file, identity })?;
     }
-    let sink = if name == OUTPUT {
-        Sink::Output(system.clone()?)
-    } else {
-        Sink::File(File::create(system, name)?)
-    };
-    let writer = BufWriter::with_capacity(alloc, BUFFER, sink)?;
-    sinks.insert(String::from_str(alloc, name)?, writer)?;
     match sinks.get_mut(name) {
-        Some(writer) => writer.write(piece),
-        None => Ok(0),
+        Some(sink) => sink.file.write(piece),
+        None => Err(io::Error::from(ErrorKind::NotFound)),
     }
 }
 
-// Writes what is left in the buffers, and closes the files.
-fn first_unwritten<R: SystemFiles + Print + Clone + Drop>(
-    sinks: BTreeMap<String, BufWriter<Sink<R>>>,
-) -> Option<String> {
-    let mut first = None;
-    for (name, mut writer) in sinks {
-        if writer.flush().is_err() && first.is_none() {
-            first = Some(name);
-        }
-    }
-    first
+/// The identity of a regular file.
+fn identity_of<F: OpenFile>(file: &F) -> io::Result<Option<Identity>> {
+    let metadata = file.metadata()?;
+    Ok(if metadata.is_file() {
+        Some(Identity {
+            device: metadata.dev(),
+            inode: metadata.ino(),
+        })
+    } else {
+        None
+    })
+}
+
+/// Whether a file is being read or written under some name.
+fn is_open<F: Read + Write + Drop>(
+    sources: &BTreeMap<String, Source<F>>,
+    sinks: &BTreeMap<String, Sink<F>>,
+    this: Identity,
+) -> bool {
+    sources.values().any(|source| source.identity == Some(this))
+        || sinks.values().any(|sink| sink.identity == Some(this))
 }

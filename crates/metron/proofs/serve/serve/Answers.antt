@@ -2,7 +2,7 @@ use Rattle.std.proofs.Common.{refl, sym, ◌∙◌, ap, subst}
 use Rattle.std.specs.Vec.Iter.{into_iter_items}
 use Rattle.mt_io.specs.Files.{Gains}
 use Rattle.mt_io.specs.Copy.{GainsFront}
-use Rattle.mt_io.proofs.Laws.{same_but_twice, same_twice, never_fell_twice}
+use Rattle.mt_io.specs.Laws.{same_but_twice, same_twice, never_fell_twice}
 use Rattle.mt_chain.specs.Run.{IsThere, entry_of}
 use Rattle.mt_chain.proofs.Entries.{has_entry}
 use Rattle.metron.proofs.Taken.{with_rest, with_one, at_end}

@@ -1,6 +1,6 @@
 use Rattle.std.proofs.Common.{◌≡◌, List, ℕ, ◌++◌, take, drop, sym, ap, ◌∙◌, rules}
 use Rattle.std.proofs.lemmas.List.{append_assoc, take-append-drop, take_rest}
-use Rattle.mt_io.proofs.Laws.{gains_twice}
+use Rattle.mt_io.specs.Laws.{gains_twice}
 use Rattle.mt_io.proofs.copy.write_all.Goals as goal
 
 -- one more front of the piece was gained

@@ -1,7 +1,7 @@
 use Rattle.std.proofs.Common.{◌+◌, Some, unwrap_or, ap, ◌∙◌, arith}
 use Rattle.mt_io.specs.State.{unnamed}
 use Rattle.mt_io.specs.Memory.{held_of, write_faults_of}
-use Rattle.mt_io.proofs.Laws.{same_from_but, never_fell_from_but}
+use Rattle.mt_io.specs.Laws.{same_from_but, never_fell_from_but}
 use Rattle.mt_io.proofs.memory.MemoryFilesFiles.write.Goals as goal
 
 pub returns-clause-held : goal.returns-clause-held

@@ -1,28 +1,33 @@
 -- Laws of what calls do to files, by which a run of calls is told as one.
-use Rattle.std.proofs.Common.{◌≡◌, ◌≢◌, ℕ, ◌<◌, ◌≤◌, List, [], ◌++◌, length, Option, Some, None, inl, inr, refl, sym, ap, ◌∙◌, subst, append_assoc, arith, length-append}
+use Rattle.std.specs.Prelude.{◌≡◌, ◌≢◌, ℕ, ◌+◌, ◌-◌, ◌^◌, ◌≤◌, List, [], ◌++◌, Option, Some, None, refl}
+use Rattle.std.proofs.Common.{inl, inr, sym, ap, ◌∙◌, subst, append_assoc}
 use Rattle.std.specs.Str.{bytes_eq}
+use Rattle.std.proofs.Math.Nat.{le_refl, le_trans, le-min, min-le_left, min-le_right, add-le-add}
 use Rattle.std.proofs.lemmas.Bool.{cases_Bool}
 use Rattle.std.proofs.lemmas.Bool.Decides.{not_from_Decides}
 use Rattle.std.proofs.lemmas.List.{append-nil}
+use Rattle.std.proofs.lemmas.Option.{none-some, same_Some}
 use Rattle.std.proofs.lemmas.Slice.Eq.{bytes_eq-Decides}
 use Rattle.mt_io.specs.Files.{Takes, IsAtEnd, Gains, Rose, IsSame, IsSameBut, NeverFell}
-use Rattle.mt_io.specs.Copy.{GainsFront, IsWhole, IsLongerThan}
+use Rattle.mt_io.specs.Copy.{GainsFront, IsWhole}
 
 -- no gain at all
 pub gains_nothing : (before after : Option (List ℕ)) → after ≡ before → Gains before [] after
-gains_nothing None after same = tt
+gains_nothing None after same = same
 gains_nothing (Some old) after same = same ∙ ap (λ (l : List ℕ). Some l) (sym (append-nil old))
 
 -- two gains are one gain
 pub gains_twice : (before middle after : Option (List ℕ)) (first second : List ℕ) → Gains before first middle → Gains middle second after → Gains before (first ++ second) after
-gains_twice None middle after first second one two = tt
-gains_twice (Some old) None after first second one two = cc
-gains_twice (Some old) (Some mid) after first second one two = grind (arith, append_assoc)
+gains_twice None None after first second one two = two
+gains_twice None (Some mid) after first second one two = absurd (none-some mid (sym one))
+gains_twice (Some old) None after first second one two = absurd (none-some (old ++ first) one)
+gains_twice (Some old) (Some mid) after first second one two =
+    two ∙ ap (λ (l : List ℕ). Some (l ++ second)) (same_Some mid (old ++ first) one) ∙ ap (λ (l : List ℕ). Some l) (append_assoc old first second)
 
 -- a gain of some bytes, and of a front of others, is a gain of a front of both together
 pub gains_then_front : (before middle after : Option (List ℕ)) (first second : List ℕ) → Gains before first middle → GainsFront middle second after → GainsFront before (first ++ second) after
 gains_then_front before middle after first second one two =
-    let whole : first ++ second ≡ (first ++ two.0) ++ two.1 = ap (λ (l : List ℕ). first ++ l) two.2 ∙ grind (arith, append_assoc) in
+    let whole : first ++ second ≡ (first ++ two.0) ++ two.1 = ap (λ (l : List ℕ). first ++ l) two.2 ∙ sym (append_assoc first two.0 two.1) in
     (first ++ two.0, two.1, whole, gains_twice before middle after first two.0 one two.3)
 
 -- what is gained as a whole is gained as a front
@@ -40,33 +45,29 @@ front_of_nothing before after piece same = ([], piece, refl, gains_nothing befor
 
 -- nothing was taken
 pub takes_nothing : (before after : Option (List ℕ)) → after ≡ before → Takes before [] after
-takes_nothing None after same = tt
+takes_nothing None after same = same
 takes_nothing (Some all) after same = (all, same, refl)
 
 -- two takes are one take
 pub takes_twice : (before middle after : Option (List ℕ)) (first second : List ℕ) → Takes before first middle → Takes middle second after → Takes before (first ++ second) after
-takes_twice None middle after first second one two = tt
-takes_twice (Some all) None after first second one two = cc (one.1)
+takes_twice None None after first second one two = two
+takes_twice None (Some mid) after first second one two = absurd (none-some mid (sym one))
+takes_twice (Some all) None after first second one two = absurd (none-some one.0 one.1)
 takes_twice (Some all) (Some mid) after first second one two =
-    let is_rest : mid ≡ one.0 = cc (one.1) in
-    (two.0, two.1, one.2 ∙ ap (λ (l : List ℕ). first ++ l) (sym is_rest ∙ two.2) ∙ grind (arith, append_assoc))
+    let is_rest : one.0 ≡ mid = sym (same_Some mid one.0 one.1) in
+    (two.0, two.1, one.2 ∙ ap (λ (l : List ℕ). first ++ l) (is_rest ∙ two.2) ∙ sym (append_assoc first second two.0))
 
 -- what was taken to the end is the whole
 pub takes_to_end : (before after : Option (List ℕ)) (bytes : List ℕ) → Takes before bytes after → IsAtEnd after → IsWhole before bytes after
-takes_to_end None after bytes taken at_end = tt
-takes_to_end (Some all) None bytes taken at_end = cc (taken.1)
+takes_to_end None after bytes taken at_end = taken
+takes_to_end (Some all) None bytes taken at_end = absurd (none-some taken.0 taken.1)
 takes_to_end (Some all) (Some left) bytes taken at_end =
-    let none_left : taken.0 ≡ [] = cc (taken.1, at_end) in
+    let none_left : taken.0 ≡ [] = sym (same_Some left taken.0 taken.1) ∙ at_end in
     (sym (taken.2 ∙ ap (λ (l : List ℕ). bytes ++ l) none_left ∙ append-nil bytes), ap (λ (l : List ℕ). Some l) at_end)
-
--- more than a limit was taken
-pub takes_more_than : (limit : ℕ) (before after : Option (List ℕ)) (bytes : List ℕ) → limit < length bytes → Takes before bytes after → IsLongerThan limit before
-takes_more_than limit None after bytes more taken = tt
-takes_more_than limit (Some all) after bytes more taken = omega (arith, ap length taken.2, length-append bytes taken.0)
 
 -- what is the whole was taken
 pub takes_whole : (before after : Option (List ℕ)) (text : List ℕ) → IsWhole before text after → Takes before text after
-takes_whole None after text whole = tt
+takes_whole None after text whole = whole
 takes_whole (Some all) after text whole = ([], whole.1, sym whole.0 ∙ sym (append-nil text))
 
 -- the same of what was held, or written, from before an earlier call that left it as it was
@@ -81,11 +82,12 @@ front_from earlier before after piece same front = subst (λ (o : Option (List �
 
 -- a count rose, and did not fall later
 pub rose_then : (before middle after : ℕ) → Rose before middle → middle ≤ after → Rose before after
-rose_then before middle after rose kept = omega arith
+rose_then before middle after rose kept = le_trans rose kept
 
 -- a count did not fall, and rose later
 pub then_rose : (before middle after : ℕ) → before ≤ middle → Rose middle after → Rose before after
-then_rose before middle after kept rose = omega arith
+then_rose before middle after kept rose =
+    le_trans (le-min (le_trans (min-le_left (before + 1) (2 ^ 64 - 1)) (add-le-add kept (le_refl 1))) (min-le_right (before + 1) (2 ^ 64 - 1))) rose
 
 -- the same of the counts of all names
 pub rose_then_never_fell : (before middle after : List ℕ → ℕ) (name : List ℕ) → Rose (before name) (middle name) → NeverFell middle after → Rose (before name) (after name)
@@ -96,10 +98,10 @@ never_fell_then_rose before middle after name kept rose = then_rose (before name
 
 -- NeverFell, IsSame and IsSameBut hold of no step, and of two steps where they hold of each
 pub never_fell_refl : (counts : List ℕ → ℕ) → NeverFell counts counts
-never_fell_refl counts name = omega arith
+never_fell_refl counts name = le_refl (counts name)
 
 pub never_fell_twice : (old middle new : List ℕ → ℕ) → NeverFell old middle → NeverFell middle new → NeverFell old new
-never_fell_twice old middle new one two name = let a = one name in let b = two name in omega arith
+never_fell_twice old middle new one two name = le_trans (one name) (two name)
 
 pub same_refl : {X : Type 0} (what : List ℕ → X) → IsSame what what
 same_refl what name = refl
@@ -133,4 +135,4 @@ same_from_but name old new here elsewhere other = at_each_name (λ n. new n ≡ 
 -- a count of no other name changed, and this one's did not fall
 pub never_fell_from_but : (name : List ℕ) (old new : List ℕ → ℕ) → old name ≤ new name → IsSameBut name old new → NeverFell old new
 never_fell_from_but name old new here elsewhere other =
-    at_each_name (λ n. old n ≤ new n) name other here (λ apart. let same = elsewhere other apart in omega arith)
+    at_each_name (λ n. old n ≤ new n) name other here (λ apart. subst (λ n. old other ≤ n) (sym (elsewhere other apart)) (le_refl (old other)))
