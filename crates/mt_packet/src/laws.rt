@@ -1,5 +1,6 @@
 //! Laws of writes and of checksums. The contract of each function is the law.
-ghost use Rattle.std.specs.Prelude.{◌≡◌, ◌+◌, ◌%◌, ◌<◌, ◌++◌};
+ghost use Rattle.std.specs.Prelude.{◌≡◌, ◌↔◌, ◌+◌, ◌%◌, ◌<◌, ◌++◌, List, ℕ, true};
+ghost use Rattle.mt_packet.specs.Ipv4.{is_valid_ipv4, IsValidIpv4};
 ghost use Rattle.mt_packet.specs.Checksum.{ones_complement, checksum_after_write, transport_after_write};
 ghost use Rattle.mt_packet.specs.WriteLaws.{WritesStayAllowed, LastWriteWins, WritesCommute, SameWriteKeeps, WrittenSumsSettle, CheckSettles, WriteSettles};
 
@@ -39,6 +40,11 @@ pub fn check_settles()
 /// Every write keeps the written form of checksums.
 pub fn write_settles()
     ensures { WriteSettles }
+{}
+
+/// The test of valid IPv4 answers true exactly on what is valid.
+pub fn valid_where_tested()
+    ensures { (datagram : List ℕ) → (is_valid_ipv4 datagram ≡ true) ↔ IsValidIpv4 datagram }
 {}
 
 /// Two writes, one after the other, leave the checksum that one write of both leaves, in TCP and in

@@ -1,6 +1,6 @@
-//! Ethernet frames, the headers that are read in them, and the packets that the elements of a chain
-//! read and write. A header is 24 numbers; a packet is its bytes with a layer, a paint and an
-//! annotation; each checksum is mended where a field is written.
+//! Ethernet frames, the headers that are read in them, and the packets that the elements of a chain read and
+//! write. The theorem: a field is written in its place with its checksums mended, by the definition
+//! `with_field`, and `laws` says how writes go together. Read `specs/Packet.antt` first, then `packet.rt`.
 #![tactic(auto)]
 
 mod bytes;
