@@ -13,20 +13,20 @@ use Rattle.mt_packet.specs.declared.layer.Layer.{Layer}
 use Rattle.mt_packet.specs.declared.layer.Layer.TheVariants.{Frame, Bare, Ip, Framed}
 use Rattle.mt_elements.specs.declared.kind.Kind.{Kind}
 use Rattle.mt_elements.specs.declared.kind.Kind.TheVariants.{FromDevice, ToDevice, Classifier, Discard, Null, Counter, Queue, Paint, PaintSwitch, EtherMirror, Strip, CheckIPHeader, EtherEncap, DecIPTTL, SetIPDSCP, StoreIPAddress, GetIPAddress, IPMirror, IPFilter, IPClassifier, Route}
-use Rattle.mt_elements.specs.Layers.{is_ip}
+use Rattle.mt_elements.specs.Layers.{is_bare, is_ip, takes}
 use Rattle.mt_elements.specs.declared.hop.Hop.{Hop}
 use Rattle.mt_elements.specs.declared.rule.FilterAction.{FilterAction}
 use Rattle.mt_elements.specs.declared.rule.FilterAction.TheVariants.{Deny, Out}
-use Rattle.mt_chain.specs.declared.step.Step.{Step}
-use Rattle.mt_chain.specs.Pattern.{is_whole}
-use Rattle.mt_chain.specs.Step.{stateless_step, refused, at_ethernet, at_bare, at_ip, by_pattern, has_run_out, address_of, addresses_swapped, ports_swapped, by_action, by_ip_pattern, towards, by_hop}
+use Rattle.mt_chain.specs.declared.step.Exit.{Exit}
+use Rattle.mt_chain.specs.Classifier.{is_whole}
+use Rattle.mt_chain.specs.Step.{class_step, stateless_step, refused, by_pattern, has_run_out, address_of, addresses_swapped, ports_swapped, by_action, by_ip_pattern, towards, by_hop}
 use Rattle.mt_elements.specs.ChainState.{ChainState}
 use Rattle.mt_chain.specs.declared.run.Fate.{Fate}
 use Rattle.mt_chain.specs.declared.run.Fate.TheVariants.{Sent, Dropped}
-use Rattle.mt_chain.specs.declared.walk.Ending.TheVariants as ending
-use Rattle.mt_chain.specs.declared.walk.Move.{Move}
-use Rattle.mt_chain.specs.declared.walk.Move.TheVariants.{Goes, Ends}
-use Rattle.mt_chain.specs.Run.{TablesState, State, Run, with_packet, element_step, move_of, follow, goes_on, run_from, run_packet, entry_of}
+use Rattle.mt_chain.specs.declared.step.Ending.TheVariants as ending
+use Rattle.mt_chain.specs.declared.walk.Next.{Next}
+use Rattle.mt_chain.specs.declared.walk.Next.TheVariants.{Goes, Ends}
+use Rattle.mt_chain.specs.Run.{TablesState, State, Run, with_packet, element_step, next_after, follow, goes_on, run_from, run_packet, entry_of}
 use Rattle.mt_chain.specs.Kept.{IsKept, ComesFrom}
 use Rattle.mt_chain.proofs.Sizes.{length-with_field, length-with_datagram, checked_no_longer}
 
@@ -121,33 +121,18 @@ encapsulated_kept p kind src dst ip = record {
 -- ---- a step
 
 -- what comes of a step, where there is one
-abbrev Keeps : PacketState → Option (PacketState × Step) → Type 0
+abbrev Keeps : PacketState → Option (PacketState × Exit) → Type 0
 Keeps p after = IfSome after (λ a. IsKept p a.0)
 
-where_ethernet : (p : PacketState) (after : Option (PacketState × Step)) → Keeps p after → Keeps p (at_ethernet p after)
-where_ethernet p after h = either (has_ethernet p.layer)
-  where
-    either : (b : Bool) → Keeps p (if b then after else None)
-    either true = h
-    either false = tt
-
--- at a layer where the test is as told
-where_bare : (p : PacketState) (after : Option (PacketState × Step)) → (has_ethernet p.layer ≡ false → Keeps p after) → Keeps p (at_bare p after)
-where_bare p after h = either (has_ethernet p.layer) refl
-  where
-    either : (b : Bool) → has_ethernet p.layer ≡ b → Keeps p (if b then None else after)
-    either true e = tt
-    either false e = h e
-
-where_ip : (p : PacketState) (after : Option (PacketState × Step)) → (is_ip p.layer ≡ true → Keeps p after) → Keeps p (at_ip p after)
-where_ip p after h = either (is_ip p.layer) refl
-  where
-    either : (b : Bool) → is_ip p.layer ≡ b → Keeps p (if b then after else None)
-    either true e = h e
-    either false e = tt
+-- a layer without an Ethernet header
+bare_header : (l : Layer) → is_bare l ≡ true → has_ethernet l ≡ false
+bare_header Frame h = sym h
+bare_header Bare h = refl
+bare_header Ip h = refl
+bare_header Framed h = sym h
 
 -- by a test
-by_test : (p : PacketState) (test : Bool) (passed failed : Option (PacketState × Step)) → (test ≡ true → Keeps p passed) → Keeps p failed → Keeps p (if test then passed else failed)
+by_test : (p : PacketState) (test : Bool) (passed failed : Option (PacketState × Exit)) → (test ≡ true → Keeps p passed) → Keeps p failed → Keeps p (if test then passed else failed)
 by_test p test passed failed h k = either test refl
   where
     either : (b : Bool) → test ≡ b → Keeps p (if b then passed else failed)
@@ -178,29 +163,33 @@ hop_kept : (p : PacketState) (found : Option Hop) → Keeps p (by_hop p found)
 hop_kept p (Some hop) = towards_kept p hop.gateway
 hop_kept p None = same p
 
+class_kept : (kind : Kind) (p : PacketState) → takes kind p.layer ≡ true → Keeps p (class_step kind p)
+unfolding class_step
+class_kept (FromDevice device) p h = same p
+class_kept (ToDevice device) p h = same p
+class_kept Discard p h = same p
+class_kept Null p h = same p
+class_kept Counter p h = same p
+class_kept Queue p h = same p
+class_kept (Paint paint) p h = field_kept p of.Paint paint
+class_kept PaintSwitch p h = same p
+class_kept (Classifier patterns) p h = pattern_kept p _
+class_kept EtherMirror p h = by_test p (is_whole p) _ _ (λ _. two_fields_kept p of.EthDst of.EthSrc _ _) (same p)
+class_kept Strip p h = by_test p (nat_le 14 (length p.bytes)) _ _ (λ long. stripped_kept p long) (same p)
+class_kept CheckIPHeader p h = by_test p (is_valid_ipv4 (datagram_of p)) _ _ (λ _. checked_kept p (bare_header p.layer h)) (refused_kept p (bare_header p.layer h))
+class_kept (EtherEncap kind src dst) p h = encapsulated_kept p kind src dst h
+class_kept DecIPTTL p h = by_test p (has_run_out p) _ _ (λ _. same p) (field_kept p of.Ttl _)
+class_kept (SetIPDSCP point) p h = by_test p (nat_le point 63) _ _ (λ _. field_kept p of.Dscp point) tt
+class_kept (StoreIPAddress address which) p h = field_kept p (address_of which) address
+class_kept GetIPAddress p h = field_kept p of.Annotation _
+class_kept IPMirror p h = twice p _ _ (two_fields_kept p of.Src of.Dst _ _) (ports_kept (addresses_swapped p) (packet_flow p))
+class_kept (IPFilter rules) p h = action_kept p _
+class_kept (IPClassifier patterns) p h = ip_pattern_kept p _
+class_kept (Route hops) p h = hop_kept p _
+
 pub step_kept : (kind : Kind) (p : PacketState) → Keeps p (stateless_step kind p)
 unfolding stateless_step
-step_kept (FromDevice device) p = same p
-step_kept (ToDevice device) p = where_ethernet p _ (same p)
-step_kept Discard p = same p
-step_kept Null p = same p
-step_kept Counter p = same p
-step_kept Queue p = same p
-step_kept (Paint paint) p = field_kept p of.Paint paint
-step_kept PaintSwitch p = same p
-step_kept (Classifier patterns) p = where_ethernet p _ (pattern_kept p _)
-step_kept EtherMirror p = where_ethernet p _ (by_test p (is_whole p) _ _ (λ _. two_fields_kept p of.EthDst of.EthSrc _ _) (same p))
-step_kept Strip p = where_ethernet p _ (by_test p (nat_le 14 (length p.bytes)) _ _ (λ long. stripped_kept p long) (same p))
-step_kept CheckIPHeader p = where_bare p _ (λ bare. by_test p (is_valid_ipv4 (datagram_of p)) _ _ (λ _. checked_kept p bare) (refused_kept p bare))
-step_kept (EtherEncap kind src dst) p = where_ip p _ (λ ip. encapsulated_kept p kind src dst ip)
-step_kept DecIPTTL p = where_ip p _ (λ _. by_test p (has_run_out p) _ _ (λ _. same p) (field_kept p of.Ttl _))
-step_kept (SetIPDSCP point) p = where_ip p _ (λ _. by_test p (nat_le point 63) _ _ (λ _. field_kept p of.Dscp point) tt)
-step_kept (StoreIPAddress address which) p = where_ip p _ (λ _. field_kept p (address_of which) address)
-step_kept GetIPAddress p = where_ip p _ (λ _. field_kept p of.Annotation _)
-step_kept IPMirror p = where_ip p _ (λ _. twice p _ _ (two_fields_kept p of.Src of.Dst _ _) (ports_kept (addresses_swapped p) (packet_flow p)))
-step_kept (IPFilter rules) p = where_ip p _ (λ _. action_kept p _)
-step_kept (IPClassifier patterns) p = where_ip p _ (λ _. ip_pattern_kept p _)
-step_kept (Route hops) p = where_ip p _ (λ _. hop_kept p _)
+step_kept kind p = by_test p (takes kind p.layer) (class_step kind p) None (λ h. class_kept kind p h) tt
 
 -- ---- a run
 
@@ -212,32 +201,32 @@ came_from p q (Dropped why) kept h = tt
 abbrev RunsFrom : PacketState → Option Run → Type 0
 RunsFrom p found = IfSome found (λ run. ComesFrom p run.fate)
 
-module _ (chain : ChainState) (most : ℕ) (again : (place : ℕ × ℕ) (state : State) → RunsFrom state.packet (run_from most chain place state)) (p : PacketState) where
-  by_move : (state : State) → IsKept p state.packet → (move : Option Move) → RunsFrom p (option_and_then (follow (run_from most chain) state) move)
-  by_move state kept None = tt
-  by_move state kept (Some (Goes element input)) = either (run_from most chain (element, input) state) (again (element, input) state)
+module _ (chain : ChainState) (most : ℕ) (again : (port : ℕ × ℕ) (state : State) → RunsFrom state.packet (run_from most chain port state)) (p : PacketState) where
+  by_next : (state : State) → IsKept p state.packet → (next : Option Next) → RunsFrom p (option_and_then (follow (run_from most chain) state) next)
+  by_next state kept None = tt
+  by_next state kept (Some (Goes element input)) = either (run_from most chain (element, input) state) (again (element, input) state)
     where
       either : (found : Option Run) → RunsFrom state.packet found → RunsFrom p found
       either None h = tt
       either (Some run) h = came_from p state.packet run.fate kept h
-  by_move state kept (Some (Ends (ending.Sent device))) =
+  by_next state kept (Some (Ends (ending.Sent device))) =
       (kept.stamp, kept.device, kept.number, let size = kept.size in omega (arith, size))
-  by_move state kept (Some (Ends (ending.Dropped why))) = tt
+  by_next state kept (Some (Ends (ending.Dropped why))) = tt
 
-  by_step : (element : ℕ) (kind : Kind) (state : State) (after : Option (PacketState × Step)) → Keeps p after
+  by_step : (element : ℕ) (kind : Kind) (state : State) (after : Option (PacketState × Exit)) → Keeps p after
       → RunsFrom p (option_and_then (goes_on chain element kind (run_from most chain)) (option_map (with_packet state) after))
   by_step element kind state None h = tt
-  by_step element kind state (Some after) h = by_move (record state { packet = after.0 }) h (move_of chain element kind after.1)
+  by_step element kind state (Some after) h = by_next (record state { packet = after.0 }) h (next_after chain element kind after.1)
 
-  by_kind : (place : ℕ × ℕ) (state : State) → state.packet ≡ p → (found : Option Kind)
-      → RunsFrom p (option_and_then (λ kind. option_and_then (goes_on chain place.0 kind (run_from most chain)) (element_step kind place.1 state)) found)
-  by_kind place state is None = tt
-  by_kind place state is (Some kind) = by_step place.0 kind state (stateless_step kind state.packet) (subst (λ q. Keeps q (stateless_step kind state.packet)) is (step_kept kind state.packet))
+  by_kind : (port : ℕ × ℕ) (state : State) → state.packet ≡ p → (found : Option Kind)
+      → RunsFrom p (option_and_then (λ kind. option_and_then (goes_on chain port.0 kind (run_from most chain)) (element_step kind port.1 state)) found)
+  by_kind port state is None = tt
+  by_kind port state is (Some kind) = by_step port.0 kind state (stateless_step kind state.packet) (subst (λ q. Keeps q (stateless_step kind state.packet)) is (step_kept kind state.packet))
 
-along : (most : ℕ) (chain : ChainState) (place : ℕ × ℕ) (state : State) → RunsFrom state.packet (run_from most chain place state)
+along : (most : ℕ) (chain : ChainState) (port : ℕ × ℕ) (state : State) → RunsFrom state.packet (run_from most chain port state)
 unfolding run_from
-along zero chain place state = tt
-along (suc most) chain place state = by_kind chain most (λ place' state'. along most chain place' state') state.packet place state refl (slice_get chain.kinds place.0)
+along zero chain port state = tt
+along (suc most) chain port state = by_kind chain most (λ port' state'. along most chain port' state') state.packet port state refl (slice_get chain.kinds port.0)
 
 -- what a run sends comes from its packet
 pub run_kept : (chain : ChainState) (tables : TablesState) (packet : PacketState) (picks : List ℕ) → RunsFrom packet (run_packet chain tables packet picks)
@@ -257,27 +246,27 @@ sent_from chain tables packet picks run is = subst (λ found. RunsFrom packet fo
 abbrev LeavesPicks : List ℕ → Option Run → Type 0
 LeavesPicks picks found = IfSome found (λ run. run.picks ≡ picks)
 
-module _ (chain : ChainState) (most : ℕ) (picks : List ℕ) (again : (place : ℕ × ℕ) (state : State) → state.picks ≡ picks → LeavesPicks picks (run_from most chain place state)) where
-  picks_moved : (state : State) → state.picks ≡ picks → (move : Option Move) → LeavesPicks picks (option_and_then (follow (run_from most chain) state) move)
-  picks_moved state is None = tt
-  picks_moved state is (Some (Goes element input)) = again (element, input) state is
-  picks_moved state is (Some (Ends end)) = is
+module _ (chain : ChainState) (most : ℕ) (picks : List ℕ) (again : (port : ℕ × ℕ) (state : State) → state.picks ≡ picks → LeavesPicks picks (run_from most chain port state)) where
+  picks_next : (state : State) → state.picks ≡ picks → (next : Option Next) → LeavesPicks picks (option_and_then (follow (run_from most chain) state) next)
+  picks_next state is None = tt
+  picks_next state is (Some (Goes element input)) = again (element, input) state is
+  picks_next state is (Some (Ends end)) = is
 
-  picks_stepped : (element : ℕ) (kind : Kind) (state : State) → state.picks ≡ picks → (after : Option (PacketState × Step))
+  picks_stepped : (element : ℕ) (kind : Kind) (state : State) → state.picks ≡ picks → (after : Option (PacketState × Exit))
       → LeavesPicks picks (option_and_then (goes_on chain element kind (run_from most chain)) (option_map (with_packet state) after))
   picks_stepped element kind state is None = tt
-  picks_stepped element kind state is (Some after) = picks_moved (record state { packet = after.0 }) is (move_of chain element kind after.1)
+  picks_stepped element kind state is (Some after) = picks_next (record state { packet = after.0 }) is (next_after chain element kind after.1)
 
-  picks_behind : (place : ℕ × ℕ) (state : State) → state.picks ≡ picks → (found : Option Kind)
-      → LeavesPicks picks (option_and_then (λ kind. option_and_then (goes_on chain place.0 kind (run_from most chain)) (element_step kind place.1 state)) found)
-  picks_behind place state is None = tt
-  picks_behind place state is (Some kind) = picks_stepped place.0 kind state is (stateless_step kind state.packet)
+  picks_behind : (port : ℕ × ℕ) (state : State) → state.picks ≡ picks → (found : Option Kind)
+      → LeavesPicks picks (option_and_then (λ kind. option_and_then (goes_on chain port.0 kind (run_from most chain)) (element_step kind port.1 state)) found)
+  picks_behind port state is None = tt
+  picks_behind port state is (Some kind) = picks_stepped port.0 kind state is (stateless_step kind state.packet)
 
-picks_along : (most : ℕ) (chain : ChainState) (picks : List ℕ) (place : ℕ × ℕ) (state : State) → state.picks ≡ picks → LeavesPicks picks (run_from most chain place state)
+picks_along : (most : ℕ) (chain : ChainState) (picks : List ℕ) (port : ℕ × ℕ) (state : State) → state.picks ≡ picks → LeavesPicks picks (run_from most chain port state)
 unfolding run_from
-picks_along zero chain picks place state is = tt
-picks_along (suc most) chain picks place state is =
-    picks_behind chain most picks (λ place' state' is'. picks_along most chain picks place' state' is') place state is (slice_get chain.kinds place.0)
+picks_along zero chain picks port state is = tt
+picks_along (suc most) chain picks port state is =
+    picks_behind chain most picks (λ port' state' is'. picks_along most chain picks port' state' is') port state is (slice_get chain.kinds port.0)
 
 picks_of_run : (chain : ChainState) (tables : TablesState) (packet : PacketState) (picks : List ℕ) → LeavesPicks picks (run_packet chain tables packet picks)
 unfolding run_packet

@@ -1,12 +1,10 @@
 pub mod Entries
-mod Fields
+mod HasRun
 mod Kept
 mod Longest
 mod Outputs
-mod Positions
 pub mod Sequence
 mod Sizes
 mod Sound
-mod Decided
-mod Values
-mod Ways
+mod TestsAgree
+mod Walked

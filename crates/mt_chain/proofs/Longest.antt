@@ -31,9 +31,9 @@ at_end (z ∷ xs) x = at_end xs x
 
 module _ (address : ℕ) (done : List Hop) (hop : Hop) where
   -- what was found stays, where the line is no better
-  kept : (found : Hop) (place : ℕ) → IsLongest address done place found → (is_in address hop ≡ true → hop.length ≤ found.length) → IsLongest address (done ++ hop ∷ []) place found
-  kept found place h shorter = record {
-    stands = still_there done hop found place h.stands;
+  kept : (found : Hop) (index : ℕ) → IsLongest address done index found → (is_in address hop ≡ true → hop.length ≤ found.length) → IsLongest address (done ++ hop ∷ []) index found
+  kept found index h shorter = record {
+    stands = still_there done hop found index h.stands;
     holds = h.holds;
     longest = λ i other is has. elim (last_or_before done hop other i is) [
       | inl before ↦ h.longest i other before has
@@ -41,7 +41,7 @@ module _ (address : ℕ) (done : List Hop) (hop : Hop) where
     ];
     first = λ i other is has earlier. elim (last_or_before done hop other i is) [
       | inl before ↦ h.first i other before has earlier
-      | inr last ↦ let at : i ≡ length done = last.0 in let within = slice_get_within done place found h.stands in absurd (omega (arith, within, earlier, at))
+      | inr last ↦ let at : i ≡ length done = last.0 in let within = slice_get_within done index found h.stands in absurd (omega (arith, within, earlier, at))
     ];
   }
 

@@ -5,10 +5,7 @@ use Rattle.mt_packet.specs.Packet.{PacketState}
 use Rattle.mt_elements.specs.ChainState.{ChainState}
 use Rattle.mt_chain.specs.Run.{TablesState, Run, run_packet}
 use Rattle.mt_chain.specs.Sequence.{Runs, before, run_each}
-
--- the runs so far, and one more
-abbrev pub behind : Runs → Run → Runs
-behind so_far last = record { fates = so_far.fates ++ last.fate ∷ []; tables = last.tables; picks = last.picks }
+pub use Rattle.mt_chain.specs.Sequence.{behind}
 
 module _ (chain : ChainState) where
   -- one more behind some

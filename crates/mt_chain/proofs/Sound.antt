@@ -51,3 +51,10 @@ stripped_sound p q is same s =
       ip = λ h. along (ip_below p s p.layer refl (sym layer ∙ h));
       framed = λ h. along (never_framed p s p.layer (sym layer ∙ h));
     }
+
+-- the layer of a checked packet without an Ethernet header
+pub ip_layer : (l : Layer) → is_ip l ≡ true → l ≡ Ip
+ip_layer Frame h = absurd (false≢true h)
+ip_layer Bare h = absurd (false≢true h)
+ip_layer Ip h = refl
+ip_layer Framed h = absurd (false≢true h)

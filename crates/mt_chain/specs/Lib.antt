@@ -1,7 +1,7 @@
-pub mod Pattern
+pub mod Classifier
 pub mod Filter
-pub mod Route
-pub mod Step
-pub mod Run
 pub mod Kept
+pub mod Route
+pub mod Run
 pub mod Sequence
+pub mod Step

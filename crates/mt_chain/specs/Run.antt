@@ -7,17 +7,17 @@ use Rattle.mt_elements.specs.declared.kind.Kind.{Kind}
 use Rattle.mt_elements.specs.declared.kind.Kind.TheVariants.{FromDevice}
 use Rattle.mt_elements.specs.ChainState.{ChainState}
 use Rattle.mt_elements.specs.ChainState.{next_of}
-use Rattle.mt_chain.specs.declared.step.Step.{Step}
-use Rattle.mt_chain.specs.declared.step.Step.TheVariants.{Leaves, Sends, Drops}
+use Rattle.mt_chain.specs.declared.step.Exit.{Exit}
+use Rattle.mt_chain.specs.declared.step.Exit.TheVariants.{Leaves, Stops}
 use Rattle.mt_chain.specs.declared.run.Fate.{Fate}
 use Rattle.mt_chain.specs.declared.run.Fate.TheVariants as fate
 use Rattle.mt_chain.specs.declared.run.Ran.{Ran}
 use Rattle.mt_chain.specs.declared.run.RunFault.{RunFault}
 use Rattle.mt_chain.specs.declared.run.RunFault.TheVariants.{BadPick, NoMemory}
-use Rattle.mt_chain.specs.declared.walk.Ending.{Ending}
-use Rattle.mt_chain.specs.declared.walk.Ending.TheVariants.{Sent, Dropped}
-use Rattle.mt_chain.specs.declared.walk.Move.{Move}
-use Rattle.mt_chain.specs.declared.walk.Move.TheVariants.{Goes, Ends}
+use Rattle.mt_chain.specs.declared.step.Ending.{Ending}
+use Rattle.mt_chain.specs.declared.step.Ending.TheVariants.{Sent, Dropped}
+use Rattle.mt_chain.specs.declared.walk.Next.{Next}
+use Rattle.mt_chain.specs.declared.walk.Next.TheVariants.{Goes, Ends}
 use Rattle.mt_chain.specs.Step.{stateless_step, unwired_cause}
 
 -- What the elements of a chain remember from one packet to the next: whose turn it is at each mapper.
@@ -39,24 +39,23 @@ pub record Run : Type 0 where
 
 -- ---- one element
 
-abbrev pub with_packet : State → PacketState × Step → State × Step
+abbrev pub with_packet : State → PacketState × Exit → State × Exit
 with_packet state after = (record state { packet = after.0 }, after.1)
 
 -- the step of an element on what comes to one of its inputs
-abbrev pub element_step : Kind → ℕ → State → Option (State × Step)
+abbrev pub element_step : Kind → ℕ → State → Option (State × Exit)
 element_step kind input state = option_map (with_packet state) (stateless_step kind state.packet)
 
 -- a packet at an output that leads there, or is dropped for that cause where it leads nowhere
-abbrev pub by_wire : Option (ℕ × ℕ) → Option Cause → Option Move
+abbrev pub by_wire : Option (ℕ × ℕ) → Option Cause → Option Next
 by_wire (Some wire) why = Some (Goes wire.0 wire.1)
 by_wire None (Some why) = Some (Ends (Dropped why))
 by_wire None None = None
 
--- where a step of an element leads: to an input of another element, or to the packet's end
-abbrev pub move_of : ChainState → ℕ → Kind → Step → Option Move
-move_of chain element kind (Leaves out) = by_wire (next_of chain element out) (unwired_cause kind out)
-move_of chain element kind (Sends device) = Some (Ends (Sent device))
-move_of chain element kind (Drops why) = Some (Ends (Dropped why))
+-- where a packet goes from an element: to an input of another, or to its end
+abbrev pub next_after : ChainState → ℕ → Kind → Exit → Option Next
+next_after chain element kind (Leaves out) = by_wire (next_of chain element out) (unwired_cause kind out)
+next_after chain element kind (Stops ending) = Some (Ends ending)
 
 -- ---- all of them
 
@@ -69,19 +68,19 @@ fate_of packet (Sent device) = fate.Sent device (stamped_of packet)
 fate_of packet (Dropped why) = fate.Dropped why
 
 -- the run goes on where the packet goes, or is over
-abbrev pub follow : (ℕ × ℕ → State → Option Run) → State → Move → Option Run
+abbrev pub follow : (ℕ × ℕ → State → Option Run) → State → Next → Option Run
 follow along state (Goes element input) = along (element, input) state
 follow along state (Ends ending) = Some (record { fate = fate_of state.packet ending; tables = state.tables; picks = state.picks })
 
 -- the run goes on behind a step of an element
-abbrev pub goes_on : ChainState → ℕ → Kind → (ℕ × ℕ → State → Option Run) → State × Step → Option Run
-goes_on chain element kind along after = option_and_then (follow along after.0) (move_of chain element kind after.1)
+abbrev pub goes_on : ChainState → ℕ → Kind → (ℕ × ℕ → State → Option Run) → State × Exit → Option Run
+goes_on chain element kind along after = option_and_then (follow along after.0) (next_after chain element kind after.1)
 
 -- The run from an element and its input on. `most` is no less than the number of elements on the way.
 unfoldable pub run_from : ℕ → ChainState → ℕ × ℕ → State → Option Run
-run_from zero chain place state = None
-run_from (suc most) chain place state =
-    option_and_then (λ kind. option_and_then (goes_on chain place.0 kind (run_from most chain)) (element_step kind place.1 state)) (slice_get chain.kinds place.0)
+run_from zero chain port state = None
+run_from (suc most) chain port state =
+    option_and_then (λ kind. option_and_then (goes_on chain port.0 kind (run_from most chain)) (element_step kind port.1 state)) (slice_get chain.kinds port.0)
 
 abbrev pub is_entry : ℕ → Kind → Bool
 is_entry device (FromDevice number) = number == device
@@ -110,5 +109,5 @@ IsThere {A} found = (value : A) × (found ≡ Some value)
 
 -- why there was no run to its end
 abbrev pub RunCause : Option Run → RunFault → Type 0
-RunCause run (BadPick place) = run ≡ None
+RunCause run (BadPick index) = run ≡ None
 RunCause run NoMemory = ⊤

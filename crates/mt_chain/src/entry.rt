@@ -4,6 +4,7 @@ ghost use Rattle.mt_chain.specs.Run.{is_entry, entry_of};
 
 use mt_elements::{Chain, Kind};
 
+/// Whether an element is the `FromDevice` of a device.
 fn is_entry(device: u32, kind: &Kind) -> bool
     ensures { result ≡ is_entry device kind.now }
 {

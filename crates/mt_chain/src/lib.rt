@@ -1,11 +1,12 @@
-//! The elements of a chain at work on packets, one packet after the other: what each element does, and
-//! the run of a packet from the device on which it arrived to its fate.
+//! The elements of a chain at work on packets. `run_one` gives exactly the run of one packet, from the device
+//! on which it arrived to its fate, and every packet that arrives has one. Read `specs/Step.antt` first, one
+//! line for each class, then `specs/Run.antt`.
 #![tactic(auto)]
 
+mod classifier;
 mod entry;
 mod filter;
-mod kinds;
-mod pattern;
+pub mod laws;
 mod route;
 mod run;
 mod step;

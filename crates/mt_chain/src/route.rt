@@ -1,10 +1,10 @@
-//! The line of a route table for an address.
+//! The entry of a route table for an address.
 ghost use Rattle.std.specs.Prelude.{◌≡◌, ◌≤◌};
 ghost use Rattle.mt_chain.specs.Route.{is_in, is_longer, better, route_of, IsRoute};
 
 use mt_elements::Hop;
 
-/// Whether an address is in the prefix of a line.
+/// Whether an address is in the prefix of an entry.
 #[tactic(auto, unfolding(crate::specs::Route::is_in, mt_pattern::specs::Span::prefix_span))]
 fn is_in(address: u64, hop: &Hop) -> bool
     ensures { result ≡ is_in address hop.now }
@@ -14,7 +14,7 @@ fn is_in(address: u64, hop: &Hop) -> bool
     lo <= address && address <= lo + (size - 1)
 }
 
-/// Whether the prefix of a line is longer than that of the line found so far.
+/// Whether the prefix of an entry is longer than that of the entry found so far.
 fn is_longer(hop: &Hop, found: &Option<Hop>) -> bool
     ensures { result ≡ is_longer hop.now found.now }
 {
@@ -24,7 +24,7 @@ fn is_longer(hop: &Hop, found: &Option<Hop>) -> bool
     }
 }
 
-/// The line that is found with one more.
+/// The entry that is found with one more.
 #[tactic(auto, unfolding(crate::specs::Route::better))]
 fn better(address: u64, found: Option<Hop>, hop: &Hop) -> Option<Hop>
     ensures { result ≡ better address found hop.now }
@@ -36,7 +36,7 @@ fn better(address: u64, found: Option<Hop>, hop: &Hop) -> Option<Hop>
     }
 }
 
-/// The line of the longest prefix that an address is in, the first of equal ones.
+/// The entry of the longest prefix that an address is in, the first of equal ones.
 #[tactic(auto, unfolding(crate::specs::Route::route_of))]
 fn found(hops: &[Hop], address: u64) -> Option<Hop>
     ensures { result ≡ route_of address hops.now }
@@ -50,7 +50,7 @@ fn found(hops: &[Hop], address: u64) -> Option<Hop>
     found
 }
 
-/// The line of a route table for an address.
+/// The entry of a route table for an address.
 #[tactic(auto, using(crate::proofs::Longest::is_route))]
 pub(crate) fn route(hops: &[Hop], address: u64) -> Option<Hop>
     ensures value { result ≡ route_of address hops.now }

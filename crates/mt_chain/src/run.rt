@@ -1,14 +1,12 @@
 //! The run of one packet along the wires of a chain.
-ghost use Rattle.std.specs.Prelude.{◌≡◌, ◌≤◌, Some, length, option_map, IfSome, IfOk, IfErr, OnErr};
+ghost use Rattle.std.specs.Prelude.{◌≡◌, ◌≤◌, Some, length, IfOk, IfErr, OnErr};
 ghost use Rattle.mt_packet.specs.declared.layer.Layer.TheVariants as layer;
-ghost use Rattle.mt_chain.specs.Step.{IsSound};
 ghost use Rattle.mt_chain.specs.Kept.{ComesFrom};
-ghost use Rattle.mt_chain.specs.Run.{Run, run_packet, run_told, run_from, fate_of, entry_of, IsThere, RunCause};
+ghost use Rattle.mt_chain.specs.Run.{Run, run_packet, run_told, entry_of, IsThere, RunCause};
 
 use crate::Tables;
 use crate::entry::entry_of;
-use crate::kinds::pass;
-use crate::walk::{Ending, Move, move_of};
+use crate::walk::walk;
 use mt_elements::Chain;
 use mt_packet::{Cause, Field, Packet, Stamped};
 
@@ -31,7 +29,7 @@ pub struct Ran {
 /// Why there is no run.
 #[derive(Clone, Copy, Debug, PartialEq, Eq)]
 pub enum RunFault {
-    /// The pick at that place is missing or is not free.
+    /// The pick with that index is missing or is not free.
     BadPick(usize),
     /// There was no memory.
     NoMemory,
@@ -64,38 +62,4 @@ pub fn run_one(
         Some(ran) => Ok(ran),
         None => unreachable!(),
     }
-}
-
-/// Runs a packet from an element on. None where the chain has no way for it.
-fn walk(chain: &Chain, tables: &Tables, packet: Packet, picks: &[u16], entry: u32) -> Option<Ran>
-    requires sound { IsSound packet }
-    ensures run { option_map (λ ran. run_told tables.now picks.now ran) result ≡ run_from (length chain.now.kinds) chain.now (entry, 0) (record { packet = packet; tables = tables.now; picks = picks.now }) }
-    ensures used { IfSome result (λ ran. ran.used ≡ 0) }
-{
-    let mut packet = packet;
-    let mut place = (entry, 0);
-    for _ in 0..chain.elements() {
-        if place.0 >= chain.elements() {
-            return None;
-        }
-        let kind = chain.kind(place.0);
-        let step = pass(kind, &mut packet)?;
-        match move_of(chain, place.0, kind, step)? {
-            Move::Goes(element, input) => place = (element, input),
-            Move::Ends(ending) => return Some(ran_to(ending, packet)),
-        }
-    }
-    None
-}
-
-/// The run of a packet to that end, which took no pick.
-fn ran_to(ending: Ending, packet: Packet) -> Ran
-    ensures fate { result.fate ≡ fate_of packet ending }
-    ensures used { result.used ≡ 0 }
-{
-    let fate = match ending {
-        Ending::Sent(device) => Fate::Sent(device, packet.into_stamped()),
-        Ending::Dropped(cause) => Fate::Dropped(cause),
-    };
-    Ran { fate, used: 0 }
 }

@@ -1,27 +1,19 @@
-//! Where a packet goes from an element.
-ghost use Rattle.std.specs.Prelude.{◌≡◌};
-ghost use Rattle.mt_chain.specs.Step.{unwired_cause};
-ghost use Rattle.mt_chain.specs.Run.{move_of};
+//! The walk of a packet along the wires of a chain, from an element to its end.
+ghost use Rattle.std.specs.Prelude.{◌≡◌, length, option_map, IfSome};
+ghost use Rattle.mt_chain.specs.Step.{IsSound, unwired_cause};
+ghost use Rattle.mt_chain.specs.Run.{run_told, run_from, fate_of, next_after};
 
-use crate::step::Step;
+use crate::step::{Ending, Exit, pass};
+use crate::{Fate, Ran, Tables};
 use mt_elements::{Chain, Kind};
-use mt_packet::Cause;
-
-/// How the way of a packet ends.
-#[derive(Clone, Copy)]
-pub(crate) enum Ending {
-    /// It is sent on a device.
-    Sent(u32),
-    /// It is dropped.
-    Dropped(Cause),
-}
+use mt_packet::{Cause, Packet};
 
 /// Where a packet goes from an element.
 #[derive(Clone, Copy)]
-pub(crate) enum Move {
+pub(crate) enum Next {
     /// To an element and an input of it.
     Goes(u32, u32),
-    /// Its way is over.
+    /// Its run ends.
     Ends(Ending),
 }
 
@@ -38,16 +30,57 @@ fn unwired_cause(kind: &Kind, out: u32) -> Option<Cause>
     }
 }
 
-/// Where a step of an element leads.
-pub(crate) fn move_of(chain: &Chain, element: u32, kind: &Kind, step: Step) -> Option<Move>
-    ensures { result ≡ move_of chain.now element kind.now step }
+/// Where a packet goes from an element. None where it leaves by an output that leads nowhere and has to lead
+/// somewhere.
+fn next_after(chain: &Chain, element: u32, kind: &Kind, exit: Exit) -> Option<Next>
+    ensures { result ≡ next_after chain.now element kind.now exit }
 {
-    match step {
-        Step::Leaves(out) => match chain.next(element, out) {
-            Some((next, input)) => Some(Move::Goes(next, input)),
-            None => Some(Move::Ends(Ending::Dropped(unwired_cause(kind, out)?))),
+    match exit {
+        Exit::Leaves(out) => match chain.next(element, out) {
+            Some((next, input)) => Some(Next::Goes(next, input)),
+            None => Some(Next::Ends(Ending::Dropped(unwired_cause(kind, out)?))),
         },
-        Step::Sends(device) => Some(Move::Ends(Ending::Sent(device))),
-        Step::Drops(cause) => Some(Move::Ends(Ending::Dropped(cause))),
+        Exit::Stops(ending) => Some(Next::Ends(ending)),
     }
+}
+
+/// Runs a packet from an element on, an element at a time along the wires. None where the chain has no way
+/// for it.
+pub(crate) fn walk(
+    chain: &Chain,
+    tables: &Tables,
+    packet: Packet,
+    picks: &[u16],
+    entry: u32,
+) -> Option<Ran>
+    requires sound { IsSound packet }
+    ensures run { option_map (λ ran. run_told tables.now picks.now ran) result ≡ run_from (length chain.now.kinds) chain.now (entry, 0) (record { packet = packet; tables = tables.now; picks = picks.now }) }
+    ensures used { IfSome result (λ ran. ran.used ≡ 0) }
+{
+    let mut packet = packet;
+    let mut port = (entry, 0);
+    for _ in 0..chain.elements() {
+        if port.0 >= chain.elements() {
+            return None;
+        }
+        let kind = chain.kind(port.0);
+        let exit = pass(kind, &mut packet)?;
+        match next_after(chain, port.0, kind, exit)? {
+            Next::Goes(element, input) => port = (element, input),
+            Next::Ends(ending) => return Some(ran_to(ending, packet)),
+        }
+    }
+    None
+}
+
+/// The run of a packet to that end, which took no pick.
+fn ran_to(ending: Ending, packet: Packet) -> Ran
+    ensures fate { result.fate ≡ fate_of packet ending }
+    ensures used { result.used ≡ 0 }
+{
+    let fate = match ending {
+        Ending::Sent(device) => Fate::Sent(device, packet.into_stamped()),
+        Ending::Dropped(cause) => Fate::Dropped(cause),
+    };
+    Ran { fate, used: 0 }
 }

@@ -1,6 +1,6 @@
 use Rattle.std.proofs.Common.{sym, ◌∙◌, arith}
 use Rattle.mt_chain.specs.Run.{is_entry}
-use Rattle.mt_chain.proofs.Positions.{found, missing, one_more}
+use Rattle.mt_lists.proofs.Positions.{found, missing, one_more}
 use Rattle.mt_chain.proofs.entry.entry_of.Goals as goal
 
 pub returns-then-is_entry : goal.returns-then-is_entry

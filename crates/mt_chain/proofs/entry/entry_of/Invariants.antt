@@ -1,5 +1,5 @@
 use Rattle.mt_chain.specs.Run.{is_entry}
-use Rattle.mt_chain.proofs.Positions.{NoneBefore}
+use Rattle.mt_lists.proofs.Positions.{NoneBefore}
 use Rattle.mt_chain.proofs.entry.entry_of.Given as goal
 
 -- no element so far is the entry

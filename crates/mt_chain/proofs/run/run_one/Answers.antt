@@ -2,7 +2,7 @@ use Rattle.std.proofs.Common.{option_map, sym, ◌∙◌, ap}
 use Rattle.std.proofs.lemmas.Bool.{false≢true}
 use Rattle.mt_chain.specs.Run.{run_told}
 use Rattle.mt_chain.proofs.Kept.{sent_from, picks_left}
-use Rattle.mt_chain.proofs.Values.{has_run, from_entry, not_missing}
+use Rattle.mt_chain.proofs.HasRun.{has_run, from_entry, not_missing}
 use Rattle.mt_chain.proofs.run.run_one.Goals as goal
 
 pub unreachable-requires-in-None : goal.unreachable-requires-in-None

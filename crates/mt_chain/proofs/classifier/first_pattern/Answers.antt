@@ -1,7 +1,7 @@
 use Rattle.std.proofs.Common.{sym, ◌∙◌, arith}
-use Rattle.mt_chain.specs.Pattern.{pattern_holds}
-use Rattle.mt_chain.proofs.Positions.{found, missing, one_more}
-use Rattle.mt_chain.proofs.pattern.first_pattern.Goals as goal
+use Rattle.mt_chain.specs.Classifier.{pattern_holds}
+use Rattle.mt_lists.proofs.Positions.{found, missing, one_more}
+use Rattle.mt_chain.proofs.classifier.first_pattern.Goals as goal
 
 pub returns-then-pattern_holds : goal.returns-then-pattern_holds
 returns-then-pattern_holds c =

@@ -1,7 +1,7 @@
 use Rattle.std.proofs.Common.{sym, subst}
 use Rattle.mt_chain.specs.Run.{IsThere, entry_of}
 use Rattle.mt_chain.proofs.Entries.{has_entry}
-use Rattle.mt_chain.proofs.tests.ended.Goals as goal
+use Rattle.mt_chain.proofs.tests.runs.ended.Goals as goal
 
 pub run_one-requires-clause-known : goal.run_one-requires-clause-known
 run_one-requires-clause-known c =

@@ -2,7 +2,7 @@
 ghost use Rattle.std.specs.Prelude.{◌≡◌, position};
 ghost use Rattle.std.specs.Bool.{OnTrue};
 ghost use Rattle.mt_packet.specs.Packet.{HasEthernet};
-ghost use Rattle.mt_chain.specs.Pattern.{is_whole, has_value, clause_holds, pattern_holds, value_of};
+ghost use Rattle.mt_chain.specs.Classifier.{is_whole, has_value, clause_holds, pattern_holds, value_of};
 
 use mt_elements::{Clause, Patterns};
 use mt_packet::{Field, Packet};
@@ -15,6 +15,7 @@ pub(crate) fn is_whole(packet: &Packet) -> bool
     packet.has_whole_ethernet()
 }
 
+/// Whether the field of a clause has its value.
 fn has_value(clause: Clause, packet: &Packet) -> bool
     ensures { result ≡ has_value packet.now clause }
 {
@@ -26,12 +27,14 @@ fn has_value(clause: Clause, packet: &Packet) -> bool
     }
 }
 
+/// Whether a clause holds on a packet: on none below 14 bytes.
 fn clause_holds(clause: Clause, packet: &Packet) -> bool
     ensures { result ≡ clause_holds packet.now clause }
 {
     is_whole(packet) && has_value(clause, packet)
 }
 
+/// Whether all clauses of a pattern hold.
 fn pattern_holds(clauses: &[Clause], packet: &Packet) -> bool
     ensures { result ≡ pattern_holds packet.now clauses.now }
 {

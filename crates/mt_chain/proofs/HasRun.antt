@@ -6,7 +6,7 @@ use Rattle.std.proofs.lemmas.List.Quantifiers.{position-Some}
 use Rattle.std.proofs.lemmas.Option.{slice_get_cases, slice_get_within, slice_get-get_or, none-some}
 use Rattle.mt_packet.specs.Flow.{packet_flow}
 use Rattle.mt_packet.specs.Ipv4.{is_valid_ipv4}
-use Rattle.mt_packet.specs.Packet.{PacketState, has_ethernet, datagram_of, layer_below, layer_checked, with_field, packet_header}
+use Rattle.mt_packet.specs.Packet.{PacketState, datagram_of, layer_below, layer_checked, with_field, packet_header}
 use Rattle.mt_packet.specs.declared.cause.Cause.{Cause}
 use Rattle.mt_packet.specs.declared.cause.Cause.TheVariants as cause
 use Rattle.mt_packet.specs.declared.flow.Flow.{Flow}
@@ -27,10 +27,10 @@ use Rattle.mt_elements.specs.ChainState.{ChainState}
 use Rattle.mt_elements.specs.ChainState.{next_of, wired_of}
 use Rattle.mt_elements.specs.Layers.{takes, layer_behind, output_count, filter_outs, route_outs, may_be_open, is_bare}
 use Rattle.mt_elements.specs.Accepted.{IsKind, LeadsOn, IsAccepted}
-use Rattle.mt_chain.specs.declared.step.Step.{Step}
-use Rattle.mt_chain.specs.declared.step.Step.TheVariants.{Leaves, Sends, Drops}
-use Rattle.mt_chain.specs.Pattern.{is_whole, pattern_holds}
-use Rattle.mt_chain.specs.Step.{stateless_step, by_pattern, has_run_out, address_of, addresses_swapped, ports_swapped, by_action, by_ip_pattern, towards, by_hop, unwired_cause}
+use Rattle.mt_chain.specs.declared.step.Exit.{Exit}
+use Rattle.mt_chain.specs.declared.step.Exit.TheVariants.{Leaves, Stops}
+use Rattle.mt_chain.specs.Classifier.{is_whole, pattern_holds}
+use Rattle.mt_chain.specs.Step.{class_step, stateless_step, by_pattern, has_run_out, address_of, addresses_swapped, ports_swapped, by_action, by_ip_pattern, towards, by_hop, unwired_cause}
 use Rattle.mt_chain.specs.Filter.{holds_on}
 use Rattle.mt_chain.specs.Route.{IsRoute}
 use Rattle.mt_chain.proofs.Longest.{is_route}
@@ -44,23 +44,19 @@ abbrev IsWay : Kind → ℕ → ℕ → Type 0
 IsWay kind wired out = (out < output_count kind wired) ⊎ IsThere (unwired_cause kind out)
 
 -- what comes of a step of an element that takes the layer
-abbrev IsAfter : Kind → Layer → ℕ → PacketState → Step → Type 0
+abbrev IsAfter : Kind → Layer → ℕ → PacketState → Exit → Type 0
 IsAfter kind layer wired packet (Leaves out) = (packet.layer ≡ layer_behind kind layer out) × IsWay kind wired out
-IsAfter kind layer wired packet (Sends device) = ⊤
-IsAfter kind layer wired packet (Drops why) = ⊤
+IsAfter kind layer wired packet (Stops ending) = ⊤
 
-abbrev Steps : Kind → Layer → ℕ → Option (PacketState × Step) → Type 0
+abbrev Steps : Kind → Layer → ℕ → Option (PacketState × Exit) → Type 0
 Steps kind layer wired (Some after) = IsAfter kind layer wired after.0 after.1
 Steps kind layer wired None = ⊥
 
 -- by a test that holds, or by one that does not
-when : (kind : Kind) (layer : Layer) (wired : ℕ) (test : Bool) (after other : Option (PacketState × Step)) → test ≡ true → Steps kind layer wired after → Steps kind layer wired (if test then after else other)
+when : (kind : Kind) (layer : Layer) (wired : ℕ) (test : Bool) (after other : Option (PacketState × Exit)) → test ≡ true → Steps kind layer wired after → Steps kind layer wired (if test then after else other)
 when kind layer wired test after other e h = subst (λ b. Steps kind layer wired (if b then after else other)) (sym e) h
 
-unless : (kind : Kind) (layer : Layer) (wired : ℕ) (test : Bool) (after other : Option (PacketState × Step)) → test ≡ false → Steps kind layer wired other → Steps kind layer wired (if test then after else other)
-unless kind layer wired test after other e h = subst (λ b. Steps kind layer wired (if b then after else other)) (sym e) h
-
-either : (kind : Kind) (layer : Layer) (wired : ℕ) (test : Bool) (after other : Option (PacketState × Step)) → Steps kind layer wired after → Steps kind layer wired other → Steps kind layer wired (if test then after else other)
+either : (kind : Kind) (layer : Layer) (wired : ℕ) (test : Bool) (after other : Option (PacketState × Exit)) → Steps kind layer wired after → Steps kind layer wired other → Steps kind layer wired (if test then after else other)
 either kind layer wired true after other h k = h
 either kind layer wired false after other h k = k
 
@@ -69,12 +65,6 @@ below p Frame e = refl
 below p Bare e = refl
 below p Ip e = refl
 below p Framed e = refl
-
-bare_header : (l : Layer) → is_bare l ≡ true → has_ethernet l ≡ false
-bare_header Frame h = sym h
-bare_header Bare h = refl
-bare_header Ip h = refl
-bare_header Framed h = sym h
 
 bare_checked : (l : Layer) → is_bare l ≡ true → layer_checked l ≡ Ip
 bare_checked Frame h = absurd (false≢true h)
@@ -110,32 +100,35 @@ by_line : (hops : List Hop) (p : PacketState) (wired address : ℕ) (found : Opt
 by_line hops p wired address (Some hop) there = sent_towards hops p wired hop.out hop.gateway (hop_within hops there.0 hop there.1.stands)
 by_line hops p wired address None nowhere = tt
 
+class_there : (kind : Kind) (p : PacketState) (wired : ℕ) → takes kind p.layer ≡ true → ((point : ℕ) → kind ≡ SetIPDSCP point → point ≤ 63) → Steps kind p.layer wired (class_step kind p)
+unfolding class_step
+class_there (FromDevice device) p wired h small = (refl, inl (omega arith))
+class_there (ToDevice device) p wired h small = tt
+class_there Discard p wired h small = tt
+class_there Null p wired h small = (refl, inl (omega arith))
+class_there Counter p wired h small = (refl, inl (omega arith))
+class_there Queue p wired h small = (refl, inl (omega arith))
+class_there (Paint paint) p wired h small = (refl, inl (omega arith))
+class_there PaintSwitch p wired h small = (refl, inr (cause.NoPaint, refl))
+class_there (Classifier patterns) p wired h small = by_first patterns p wired _ refl
+class_there EtherMirror p wired h small = either EtherMirror p.layer wired (is_whole p) _ _ (refl, inl (omega arith)) tt
+class_there Strip p wired h small = either Strip p.layer wired (nat_le 14 (length p.bytes)) _ _ (below p p.layer refl, inl (omega arith)) tt
+class_there CheckIPHeader p wired h small =
+    either CheckIPHeader p.layer wired (is_valid_ipv4 (datagram_of p)) _ _ (bare_checked p.layer h, inl (omega arith)) (refl, inl (omega arith))
+class_there (EtherEncap ether_type src dst) p wired h small = (refl, inl (omega arith))
+class_there DecIPTTL p wired h small = either DecIPTTL p.layer wired (has_run_out p) _ _ (refl, inl (omega arith)) (refl, inl (omega arith))
+class_there (SetIPDSCP point) p wired h small =
+    when (SetIPDSCP point) p.layer wired (nat_le point 63) _ _ (le-leb point 63 (small point refl)) (refl, inl (omega arith))
+class_there (StoreIPAddress address which) p wired h small = stored p address wired which p.layer refl
+class_there GetIPAddress p wired h small = (refl, inl (omega arith))
+class_there IPMirror p wired h small = mirrored p (addresses_swapped p) wired (packet_flow p) refl
+class_there (IPFilter rules) p wired h small = by_rules rules p wired _ (action_within (packet_header p) rules)
+class_there (IPClassifier patterns) p wired h small = by_first_ip patterns p wired _ refl
+class_there (Route hops) p wired h small = by_line hops p wired p.annotation _ (is_route p.annotation hops)
+
 step_there : (kind : Kind) (p : PacketState) (wired : ℕ) → takes kind p.layer ≡ true → ((point : ℕ) → kind ≡ SetIPDSCP point → point ≤ 63) → Steps kind p.layer wired (stateless_step kind p)
 unfolding stateless_step
-step_there (FromDevice device) p wired h small = (refl, inl (omega arith))
-step_there (ToDevice device) p wired h small = when (ToDevice device) p.layer wired _ _ _ h tt
-step_there Discard p wired h small = tt
-step_there Null p wired h small = (refl, inl (omega arith))
-step_there Counter p wired h small = (refl, inl (omega arith))
-step_there Queue p wired h small = (refl, inl (omega arith))
-step_there (Paint paint) p wired h small = (refl, inl (omega arith))
-step_there PaintSwitch p wired h small = (refl, inr (cause.NoPaint, refl))
-step_there (Classifier patterns) p wired h small = when (Classifier patterns) p.layer wired _ _ _ h (by_first patterns p wired _ refl)
-step_there EtherMirror p wired h small = when EtherMirror p.layer wired _ _ _ h (either EtherMirror p.layer wired (is_whole p) _ _ (refl, inl (omega arith)) tt)
-step_there Strip p wired h small = when Strip p.layer wired _ _ _ h (either Strip p.layer wired (nat_le 14 (length p.bytes)) _ _ (below p p.layer refl, inl (omega arith)) tt)
-step_there CheckIPHeader p wired h small =
-    unless CheckIPHeader p.layer wired _ _ _ (bare_header p.layer h)
-    (either CheckIPHeader p.layer wired (is_valid_ipv4 (datagram_of p)) _ _ (bare_checked p.layer h, inl (omega arith)) (refl, inl (omega arith)))
-step_there (EtherEncap ether_type src dst) p wired h small = when (EtherEncap ether_type src dst) p.layer wired _ _ _ h (refl, inl (omega arith))
-step_there DecIPTTL p wired h small = when DecIPTTL p.layer wired _ _ _ h (either DecIPTTL p.layer wired (has_run_out p) _ _ (refl, inl (omega arith)) (refl, inl (omega arith)))
-step_there (SetIPDSCP point) p wired h small =
-    when (SetIPDSCP point) p.layer wired _ _ _ h (when (SetIPDSCP point) p.layer wired (nat_le point 63) _ _ (le-leb point 63 (small point refl)) (refl, inl (omega arith)))
-step_there (StoreIPAddress address which) p wired h small = when (StoreIPAddress address which) p.layer wired _ _ _ h (stored p address wired which p.layer refl)
-step_there GetIPAddress p wired h small = when GetIPAddress p.layer wired _ _ _ h (refl, inl (omega arith))
-step_there IPMirror p wired h small = when IPMirror p.layer wired _ _ _ h (mirrored p (addresses_swapped p) wired (packet_flow p) refl)
-step_there (IPFilter rules) p wired h small = when (IPFilter rules) p.layer wired _ _ _ h (by_rules rules p wired _ (action_within (packet_header p) rules))
-step_there (IPClassifier patterns) p wired h small = when (IPClassifier patterns) p.layer wired _ _ _ h (by_first_ip patterns p wired _ refl)
-step_there (Route hops) p wired h small = when (Route hops) p.layer wired _ _ _ h (by_line hops p wired p.annotation _ (is_route p.annotation hops))
+step_there kind p wired h small = when kind p.layer wired (takes kind p.layer) (class_step kind p) None h (class_there kind p wired h small)
 
 -- ---- an output that leads nowhere
 
@@ -195,9 +188,8 @@ module _ (chain : ChainState) (reached : ℕ → Layer → Bool) (accepted : IsA
         subst (λ next. IsThere (option_and_then (follow (run_from most chain) state) (by_wire next (unwired_cause kind out)))) (sym (accepted.ends element out kind is_kind beyond))
         (dropped state (unwired_cause kind out) there)
 
-    follows : (state : State) (step : Step) → IsAfter kind layer (wired_of chain element) state.packet step → IsThere (goes_on chain element kind (run_from most chain) (state, step))
-    follows state (Sends device) h = (_, refl)
-    follows state (Drops why) h = (_, refl)
+    follows : (state : State) (step : Exit) → IsAfter kind layer (wired_of chain element) state.packet step → IsThere (goes_on chain element kind (run_from most chain) (state, step))
+    follows state (Stops ending) h = (_, refl)
     follows state (Leaves out) h = elim (cases_lt out (output_count kind (wired_of chain element))) [
       | inl within ↦ to_next state out h.0 (next_of chain element out) (accepted.leads element out kind layer is_kind at within)
       | inr beyond ↦ elim h.1 [
@@ -206,7 +198,7 @@ module _ (chain : ChainState) (reached : ℕ → Layer → Bool) (accepted : IsA
       ]
     ]
 
-    stepped : (state : State) (after : Option (PacketState × Step)) → Steps kind layer (wired_of chain element) after
+    stepped : (state : State) (after : Option (PacketState × Exit)) → Steps kind layer (wired_of chain element) after
         → IsThere (option_and_then (goes_on chain element kind (run_from most chain)) (option_map (with_packet state) after))
     stepped state None h = elim h [ ]
     stepped state (Some after) h = follows (record state { packet = after.0 }) after.1 h
