@@ -2,7 +2,7 @@
 use Rattle.std.proofs.Common.{suc, List, [], ◌∷◌, ◌++◌, All, AllPairs, Contains, inl, inr, subst, arith}
 use Rattle.std.proofs.lemmas.List.Elements.{All-nil, All-cons, Contains-append_cases, Contains-append_left}
 use Rattle.std.proofs.lemmas.List.Kept.{AllPairs-cons}
-use Rattle.mt_click.proofs.Ways.{first_in, later_in}
+use Rattle.mt_click.proofs.PathsFound.{first_in, later_in}
 
 pub first_with : {X : Type 0} (R : X → X → Type 0) (x : X) (xs : List X) → AllPairs R (x ∷ xs) → (y : X) → Contains xs y → R x y
 first_with R x xs h y c = subst (R x) c.2 (h 0 (suc c.0) y (omega arith) (let lt = c.1 in omega (arith, lt)))

@@ -4,8 +4,8 @@ use Rattle.std.specs.Str.{bytes_eq}
 use Rattle.mt_syntax.specs.declared.token.Token.{Token}
 use Rattle.mt_syntax.specs.declared.word.Word.{Word}
 use Rattle.mt_syntax.specs.declared.phrase.Use.{Use}
-use Rattle.mt_click.specs.declared.moment.Side.{Side}
-use Rattle.mt_click.specs.declared.moment.Side.TheVariants as sides
+use Rattle.mt_click.specs.declared.action.Side.{Side}
+use Rattle.mt_click.specs.declared.action.Side.TheVariants as sides
 use Rattle.mt_syntax.specs.Reading.{word}
 use Rattle.mt_syntax.specs.Grammar.{UseTree, use_of, PortTree, ItemTree, alone, named, made, EndpointTree, StatementTree, connect, declare, InnerTree, sign, plain, ClassTree, OuterTree, outer, class}
 use Rattle.mt_click.specs.Declarations.{spelling, class_under, Declaration, declared_under, declared_body, port_value}
@@ -39,7 +39,7 @@ name_meant s t = declared_under s.text s.declared (spelling s.text t)
 
 -- the class that a declared name is a use of
 unfoldable pub class_declared : List ℕ → Declaration → Option (ClassTree × List ClassTree)
-class_declared text d = class_under text d.classes (spelling text d.made.class)
+class_declared text d = class_under text d.classes (spelling text d.created.class)
 
 pub data Act : Type 0 where
   -- an element is made, with the name under which it is declared
@@ -50,7 +50,7 @@ pub data Act : Type 0 where
   input : ClassTree → ℕ → Act
   -- a connection leaves an output of a use of a class
   output : ClassTree → ℕ → Act
-  -- two ends are joined, by the `->` at a place
+  -- two ends are followed, by the `->` at a place
   join : ℕ → Side → Side → Act
 
 -- a use makes an element, or else expands its class
@@ -103,12 +103,12 @@ end_acts s before behind e = coming before (item_class s e.item) e.input ++ (ite
 -- class. In a body `input` is the border where a connection begins, `output` where it ends, and neither is
 -- an end elsewhere.
 abbrev pub lone_side : Token → ℕ → Option Declaration → Option Side
-lone_side t port (Some d) = Some (sides.Made d.name.from port)
-lone_side t port None = Some (sides.Made t.from port)
+lone_side t port (Some d) = Some (sides.Created d.name.from port)
+lone_side t port None = Some (sides.Created t.from port)
 
 unfoldable pub side : Sight → List ℕ → ℕ → ItemTree → Option Side
-side s border port (named t colons u) = Some (sides.Made t.from port)
-side s border port (made t a) = Some (sides.Made t.from port)
+side s border port (named t colons u) = Some (sides.Created t.from port)
+side s border port (made t a) = Some (sides.Created t.from port)
 side s border port (alone t) =
     if is_border s t then (if bytes_eq (spelling s.text t) border then Some (sides.Border port) else None)
     else lone_side t port (name_meant s t)
@@ -119,9 +119,9 @@ side_left s e = side s (codes "input") (port_value e.output) e.item
 abbrev pub side_reached : Sight → EndpointTree → Option Side
 side_reached s e = side s (codes "output") (port_value e.input) e.item
 
-abbrev pub joining : ℕ → Option Side → Option Side → List Act
-joining arrow (Some a) (Some b) = join arrow a b ∷ []
-joining arrow _ _ = []
+abbrev pub connecting : ℕ → Option Side → Option Side → List Act
+connecting arrow (Some a) (Some b) = join arrow a b ∷ []
+connecting arrow _ _ = []
 
 abbrev pub has_next : List (Token × EndpointTree) → Bool
 has_next [] = false
@@ -130,7 +130,7 @@ has_next (next ∷ more) = true
 -- the further ends of a connection, behind one
 unfoldable pub next_acts : Sight → EndpointTree → List (Token × EndpointTree) → List Act
 next_acts s e [] = []
-next_acts s e (next ∷ more) = end_acts s true (has_next more) next.1 ++ (joining next.0.from (side_left s e) (side_reached s next.1) ++ next_acts s next.1 more)
+next_acts s e (next ∷ more) = end_acts s true (has_next more) next.1 ++ (connecting next.0.from (side_left s e) (side_reached s next.1) ++ next_acts s next.1 more)
 
 -- the names before one `::`, in their order
 unfoldable pub group_acts : Sight → UseTree → List (Token × Token) → List Act

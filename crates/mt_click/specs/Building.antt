@@ -8,21 +8,21 @@ use Rattle.mt_syntax.specs.Position.{no_memory, located}
 use Rattle.mt_syntax.specs.Reading.{◌>>=◌, phrases_in}
 use Rattle.mt_graph.specs.declared.Graph.{Graph}
 use Rattle.mt_click.specs.Elements.{State}
-use Rattle.mt_click.specs.Links.{links_in}
-use Rattle.mt_click.specs.Moments.{moments_in}
+use Rattle.mt_click.specs.Connections.{connections_in}
+use Rattle.mt_click.specs.Actions.{actions_in}
 use Rattle.mt_click.specs.Walk.{Walked, walked}
 use Rattle.mt_click.specs.Wires.{AreWires}
 
 -- Faults of reading come first, and then the first that the walk meets.
 abbrev pub built_in : List ℕ → Walked
-built_in text = phrases_in text >>= λ ps. walked text (moments_in text ps)
+built_in text = phrases_in text >>= λ ps. walked text (actions_in text ps)
 
 -- The walk over the text comes to its end; its elements are the graph's, and the wires of its connections.
 pub record IsWalked (text : List ℕ) (g : Graph) : Type 0 where
   pub state : State
   pub walk : built_in text ≡ Ok state
   pub elements : g.elements.items ≡ state.elements
-  pub wires : AreWires text (links_in state) g.wires.items
+  pub wires : AreWires text (connections_in state) g.wires.items
 
 -- what a function returned, unless memory ran out
 abbrev pub Walks : List ℕ → Result Graph ReadError → Type 0

@@ -21,11 +21,11 @@ class_under text classes name = class_from text [] classes name
 -- A name that is declared, what it is a use of, and the classes that stand before the declaration.
 pub record Declaration : Type 0 where
   pub name : Token
-  pub made : UseTree
+  pub created : UseTree
   pub classes : List ClassTree
 
 abbrev pub declaration : List ClassTree → UseTree → Token → Declaration
-declaration classes u t = record { name = t; made = u; classes = classes }
+declaration classes u t = record { name = t; created = u; classes = classes }
 
 -- an item NAME "::" use declares its name
 unfoldable pub declared_item : List ClassTree → ItemTree → List Declaration

@@ -5,14 +5,14 @@ use Rattle.mt_syntax.specs.declared.token.Token.{Token}
 use Rattle.mt_syntax.specs.declared.word.Word.{Word}
 use Rattle.mt_syntax.specs.declared.phrase.Use.{Use}
 use Rattle.mt_syntax.specs.declared.replacing.Binding.{Binding}
-use Rattle.mt_click.specs.declared.moment.Side.{Side}
+use Rattle.mt_click.specs.declared.action.Side.{Side}
 use Rattle.mt_syntax.specs.Arguments.{shown}
 use Rattle.mt_syntax.specs.Replacing.{unknown_in}
 use Rattle.mt_syntax.specs.Words.{inner}
 use Rattle.mt_syntax.specs.Grammar.{ItemTree, alone, named, made, EndpointTree, StatementTree, connect, declare, InnerTree, sign, plain, ClassTree, OuterTree}
 use Rattle.mt_click.specs.Declarations.{spelling, Declaration, declared_body, declared_outside, classes_of, parameters_of, inputs_of, outputs_of}
 use Rattle.mt_click.specs.Acts.{Sight, body_sight, is_border, name_meant, Act, element, expand, input, output, join, body_acts, outside_acts}
-use Rattle.mt_click.specs.Elements.{Place, State, arguments_in, own_place, empty, top, with_element, with_use, with_join}
+use Rattle.mt_click.specs.Elements.{Context, State, arguments_in, own_offset, empty, top, with_element, with_use, with_connection}
 
 -- each name is declared once in its scope
 abbrev pub IsOther : List ℕ → Token → Token → Type 0
@@ -69,24 +69,24 @@ abbrev pub AreKnown : List ℕ → List Binding → Use → Type 0
 AreKnown text bindings u = unknown_in bindings (shown (inner text u.arguments)) ≡ None
 
 -- in the use of a class, which begins where so much is made
-abbrev pub place_inside : List ℕ → Place → State → ClassTree → Use → Place
-place_inside text p s c u = record {
+abbrev pub context_inside : List ℕ → Context → State → ClassTree → Use → Context
+context_inside text p s c u = record {
   numbers = p.numbers ++ length s.elements ∷ [];
   bindings = bindings_of text (parameters_of c) (arguments_in text p.bindings u);
-  around = length s.made + 1;
+  enclosing = length s.created + 1;
 }
 
 -- Acts at a place, where something is made, build what is made behind them.
-pub data Builds : List ℕ → Place → State → List Act → State → Type 0 where
-  done : (text : List ℕ) (p : Place) (s : State) → Builds text p s [] s
+pub data Builds : List ℕ → Context → State → List Act → State → Type 0 where
+  done : (text : List ℕ) (p : Context) (s : State) → Builds text p s [] s
   -- an element is made, of which there are at most 512
-  makes : (text : List ℕ) (p : Place) (s t : State) (name : Option Word) (u : Use) (acts : List Act) → length s.elements < 512 → AreKnown text p.bindings u → Builds text p (with_element text p s name u) acts t → Builds text p s (element name u ∷ acts) t
+  makes : (text : List ℕ) (p : Context) (s t : State) (name : Option Word) (u : Use) (acts : List Act) → length s.elements < 512 → AreKnown text p.bindings u → Builds text p (with_element text p s name u) acts t → Builds text p s (element name u ∷ acts) t
   -- the body of a class is built with an argument for each parameter
-  expands : (text : List ℕ) (p : Place) (s m t : State) (c : ClassTree) (before : List ClassTree) (name : Option Word) (u : Use) (acts : List Act) → AreKnown text p.bindings u → length (arguments_in text p.bindings u) ≡ length (parameters_of c) → Builds text (place_inside text p s c u) (with_use p s (own_place name u)) (body_acts (body_sight text before c) c.body) m → Builds text p m acts t → Builds text p s (expand c before name u ∷ acts) t
+  expands : (text : List ℕ) (p : Context) (s m t : State) (c : ClassTree) (before : List ClassTree) (name : Option Word) (u : Use) (acts : List Act) → AreKnown text p.bindings u → length (arguments_in text p.bindings u) ≡ length (parameters_of c) → Builds text (context_inside text p s c u) (with_use p s (own_offset name u)) (body_acts (body_sight text before c) c.body) m → Builds text p m acts t → Builds text p s (expand c before name u ∷ acts) t
   -- a connection comes to a port that the body names
-  comes : (text : List ℕ) (p : Place) (s t : State) (c : ClassTree) (k : ℕ) (acts : List Act) → Contains (inputs_of text c) k → Builds text p s acts t → Builds text p s (input c k ∷ acts) t
-  leaves : (text : List ℕ) (p : Place) (s t : State) (c : ClassTree) (k : ℕ) (acts : List Act) → Contains (outputs_of text c) k → Builds text p s acts t → Builds text p s (output c k ∷ acts) t
-  joins : (text : List ℕ) (p : Place) (s t : State) (arrow : ℕ) (from to : Side) (acts : List Act) → Builds text p (with_join p s arrow from to) acts t → Builds text p s (join arrow from to ∷ acts) t
+  comes : (text : List ℕ) (p : Context) (s t : State) (c : ClassTree) (k : ℕ) (acts : List Act) → Contains (inputs_of text c) k → Builds text p s acts t → Builds text p s (input c k ∷ acts) t
+  leaves : (text : List ℕ) (p : Context) (s t : State) (c : ClassTree) (k : ℕ) (acts : List Act) → Contains (outputs_of text c) k → Builds text p s acts t → Builds text p s (output c k ∷ acts) t
+  connects : (text : List ℕ) (p : Context) (s t : State) (arrow : ℕ) (from to : Side) (acts : List Act) → Builds text p (with_connection p s arrow from to) acts t → Builds text p s (join arrow from to ∷ acts) t
 
 -- A configuration expands to what its acts build from nothing, where no name is declared twice and no
 -- class uses itself.

@@ -9,27 +9,27 @@ use Rattle.mt_syntax.specs.Stopping.{TextStopsAt}
 use Rattle.mt_graph.specs.declared.Graph.{Graph}
 use Rattle.mt_click.specs.Elements.{State}
 use Rattle.mt_click.specs.Expands.{Expands}
-use Rattle.mt_click.specs.Links.{links_in, IsJoined}
-use Rattle.mt_click.specs.Spread.{moments_of_tree}
+use Rattle.mt_click.specs.Connections.{connections_in, IsConnected}
+use Rattle.mt_click.specs.Spread.{actions_of_tree}
 use Rattle.mt_click.specs.Walk.{walked}
 use Rattle.mt_click.specs.Wires.{AreWires}
 
 -- A graph of a text: the text derives a tree, the tree expands to elements and connections, each connection
--- has both its ends, and the wires are the ways of these connections.
+-- has both its ends, and the wires are the paths of these connections.
 pub record IsGraph (text : List ℕ) (g : Graph) : Type 0 where
   pub tree : List OuterTree
   pub derived : Derives text tree
   pub state : State
   pub expands : Expands text tree state
-  pub joined : IsJoined state
+  pub connected : IsConnected state
   pub elements : g.elements.items ≡ state.elements
-  pub wires : AreWires text (links_in state) g.wires.items
+  pub wires : AreWires text (connections_in state) g.wires.items
 
 -- The first fault of expansion: the text derives a tree, and the walk over the tree meets it.
 pub record IsFaultOfWalk (text : List ℕ) (f : Fault) : Type 0 where
   pub tree : List OuterTree
   pub derived : Derives text tree
-  pub walk : walked text (moments_of_tree text tree) ≡ Err f
+  pub walk : walked text (actions_of_tree text tree) ≡ Err f
 
 -- A fault of reading stands where the text stops to be the beginning of a configuration.
 abbrev pub IsFault : List ℕ → Fault → Type 0

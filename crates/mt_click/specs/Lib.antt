@@ -1,7 +1,7 @@
 pub mod Scopes
 pub mod Names
 pub mod Tables
-pub mod Moments
+pub mod Actions
 pub mod Elements
 pub mod Declarations
 pub mod Acts
@@ -10,11 +10,11 @@ pub mod Walk
 pub mod Stacks
 pub mod Runs
 pub mod Building
-pub mod Links
-pub mod Made
+pub mod Connections
+pub mod Created
 pub mod Wires
 pub mod Networks
-pub mod Found
+pub mod Searched
 pub mod Spread
 pub mod Graphs
 pub mod Sound

@@ -8,8 +8,8 @@ use Rattle.mt_syntax.specs.declared.phrase.Item.{Item}
 use Rattle.mt_syntax.specs.declared.phrase.Item.TheVariants as items
 use Rattle.mt_syntax.specs.declared.phrase.Phrase.{Phrase}
 use Rattle.mt_syntax.specs.declared.phrase.Phrase.TheVariants as phrases
-use Rattle.mt_click.specs.declared.scope.Scope.{Scope}
-use Rattle.mt_click.specs.declared.table.Entry.{Entry}
+use Rattle.mt_click.specs.declared.symbols.Scope.{Scope}
+use Rattle.mt_click.specs.declared.symbols.Entry.{Entry}
 use Rattle.mt_click.specs.Scopes.{behind, scope_number, outside}
 use Rattle.mt_syntax.specs.Words.{bytes_of}
 
@@ -45,7 +45,7 @@ below n (Some k) = if nat_lt k n then Some k else None
 
 -- The class of a name, among those declared before.
 unfoldable pub class_of : List ℕ → List Entry → Scope → List ℕ → Option ℕ
-class_of text classes s name = below s.known (first_entry text classes 0 0 name)
+class_of text classes s name = below s.class_count (first_entry text classes 0 0 name)
 
 -- The names that a phrase declares, each with the class that it is a use of. Those before one `::` are
 -- waiting for the use behind it.
@@ -73,30 +73,30 @@ number_of None = 0
 number_of (Some p) = p.number
 
 -- a `->` stands behind
-abbrev pub is_joined : List Phrase → Bool
-is_joined (phrases.Next arrow e ∷ ps) = true
-is_joined _ = false
+abbrev pub is_followed : List Phrase → Bool
+is_followed (phrases.Next arrow e ∷ ps) = true
+is_followed _ = false
 
 -- the ports that the body of a class names, under the class's number: `input [k]` before a `->`,
 -- `[k] output` behind one
 unfoldable pub port_at : List ℕ → Scope → List ℕ → Option PortNumber → Item → List Entry
-port_at text s name port (items.Name w) = if s.inside && bytes_eq (bytes_of text w) name then entry s.known (number_of port) w None ∷ [] else []
+port_at text s name port (items.Name w) = if s.inside && bytes_eq (bytes_of text w) name then entry s.class_count (number_of port) w None ∷ [] else []
 port_at text s name port _ = []
 
 unfoldable pub input_at : List ℕ → Scope → Bool → Endpoint → List Entry
-input_at text s joined e = if joined then port_at text s (codes "input") e.output e.item else []
+input_at text s followed e = if followed then port_at text s (codes "input") e.output e.item else []
 
 unfoldable pub output_at : List ℕ → Scope → Endpoint → List Entry
 output_at text s e = port_at text s (codes "output") e.input e.item
 
 unfoldable pub ports_at : List ℕ → Scope → Bool → Phrase → List Entry
-ports_at text s joined (phrases.First e) = input_at text s joined e
-ports_at text s joined (phrases.Next arrow e) = output_at text s e ++ input_at text s joined e
-ports_at text s joined _ = []
+ports_at text s followed (phrases.First e) = input_at text s followed e
+ports_at text s followed (phrases.Next arrow e) = output_at text s e ++ input_at text s followed e
+ports_at text s followed _ = []
 
 unfoldable pub ports_from : List ℕ → Scope → List Phrase → List Entry
 ports_from text s [] = []
-ports_from text s (p ∷ ps) = ports_at text s (is_joined ps) p ++ ports_from text (behind s p) ps
+ports_from text s (p ∷ ps) = ports_at text s (is_followed ps) p ++ ports_from text (behind s p) ps
 
 -- all that is declared
 pub record Names : Type 0 where

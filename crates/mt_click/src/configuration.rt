@@ -6,12 +6,12 @@ ghost use Rattle.mt_click.specs.Building.{built_in, Walks, Finds};
 ghost use Rattle.mt_click.specs.Graphs.{Parses, IsOnly, Refuses};
 ghost use Rattle.mt_click.specs.Sound.{AreWithin, AreNamesApart, AreArgumentsFew};
 
-use crate::built::Built;
-use crate::expand::built_of;
-use crate::lines::wires_of;
-use crate::links::links_of;
-use crate::resolving::moments_of;
-use crate::wires::ways_of;
+use crate::action::Built;
+use crate::walk::built_of;
+use crate::wires::wires_of;
+use crate::connections::connections_of;
+use crate::resolving::actions_of;
+use crate::wires::paths_of;
 use mt_graph::Graph;
 use mt_syntax::laws::texts_are_read;
 use mt_syntax::{ClickFault, ClickWhy, ReadError, fault_in, read};
@@ -23,8 +23,8 @@ fn expanded(alloc: Global, text: &[u8]) -> Result<Built, ReadError>
     ensures { Gives state result (built_in text.now) }
 {
     let phrases = read(alloc, text)?;
-    let moments = moments_of(alloc, text, &phrases)?;
-    built_of(alloc, text, &moments)
+    let actions = actions_of(alloc, text, &phrases)?;
+    built_of(alloc, text, &actions)
 }
 
 fn built(alloc: Global, text: &[u8]) -> Result<Graph, ReadError>
@@ -32,9 +32,9 @@ fn built(alloc: Global, text: &[u8]) -> Result<Graph, ReadError>
     ensures { Walks text.now result }
 {
     let built = expanded(alloc, text)?;
-    let links = links_of(alloc, &built)?;
-    let ways = ways_of(alloc, &links)?;
-    let wires = wires_of(alloc, text, &ways)?;
+    let connections = connections_of(alloc, &built)?;
+    let paths = paths_of(alloc, &connections)?;
+    let wires = wires_of(alloc, text, &paths)?;
     Ok(Graph {
         elements: built.elements,
         wires,
@@ -58,7 +58,7 @@ fn found(alloc: Global, text: &[u8]) -> Result<Graph, ClickFault>
 }
 
 /// The graph of a configuration text of at most 1,048,576 bytes, or its first fault. The elements stand
-/// in the order of their places of declaration. There is a wire for each `->` at which a way of
+/// in the order of their places of declaration. There is a wire for each `->` at which a path of
 /// connections, through ports of uses of classes, leaves an output of an element, and each input of an
 /// element that it comes to; wires stand in the order of these `->`, and at one `->` by the numbers from,
 /// out, to and into.

@@ -1,20 +1,16 @@
-//! Configurations in the Click language: the flat graph of a text, or its first fault.
+//! Configurations in the Click language as flat graphs. The theorem is `parse`: it gives the one graph that the text
+//! denotes by a relation of expansion (`specs/Expands.antt`, `specs/Wires.antt`), or its first fault with line and
+//! column. Read `configuration.rt` first.
 #![tactic(auto)]
 
-mod built;
+mod action;
 mod configuration;
-mod expand;
-mod known;
-mod lines;
-mod link;
-mod links;
-mod moment;
+mod connections;
 mod names;
-mod network;
+mod perform;
 mod resolving;
-mod scope;
 mod sides;
-mod table;
+mod symbols;
 mod walk;
 mod wires;
 

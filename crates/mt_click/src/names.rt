@@ -1,11 +1,11 @@
 //! What is declared in a configuration: classes, names, and the ports that bodies name.
 ghost use Rattle.std.specs.Prelude.{◌≡◌, ◌++◌, ◌^◌, ◌<◌, map, IfOk, OnOk, []};
 ghost use Rattle.mt_click.specs.Scopes.{scope_number, outside};
-ghost use Rattle.mt_click.specs.Names.{entry, class_at, classes_in, class_of, waiting_behind, declared_in, declared_at, names_from, number_of, is_joined, port_at, input_at, output_at, ports_at, ports_from};
+ghost use Rattle.mt_click.specs.Names.{entry, class_at, classes_in, class_of, waiting_behind, declared_in, declared_at, names_from, number_of, is_followed, port_at, input_at, output_at, ports_at, ports_from};
 ghost use Rattle.mt_click.specs.Tables.{IsTable};
 
-use crate::scope::{Scope, number_of, scope_behind};
-use crate::table::{Entry, Table};
+use crate::symbols::{Scope, number_of, scope_behind};
+use crate::symbols::{Entry, Table};
 use mt_syntax::{Endpoint, Item, Phrase, PortNumber, Word, word_bytes};
 use std::alloc::{AllocError, Global};
 
@@ -48,7 +48,7 @@ pub fn class_in(classes: &Table<'_>, scope: Scope, name: &[u8]) -> Option<usize>
 {
     match classes.find(0, 0, name) {
         Some(class) => {
-            if class < scope.known {
+            if class < scope.class_count {
                 Some(class)
             } else {
                 None
@@ -80,7 +80,7 @@ fn push_group(
     class: Option<usize>,
     waiting: &[Word],
 ) -> Result<(), AllocError>
-    requires { scope.known < 2 ^ 63 }
+    requires { scope.class_count < 2 ^ 63 }
     ensures { OnOk result (entries.new.items ≡ entries.old.items ++ map (λ w. entry (scope_number scope) 0 w class) waiting.now) }
 {
     let scope = number_of(scope);
@@ -105,12 +105,12 @@ fn push_declared(
     item: Item,
 ) -> Result<(), AllocError>
     requires table { IsTable classes.now }
-    requires bound { scope.known < 2 ^ 63 }
+    requires bound { scope.class_count < 2 ^ 63 }
     ensures { OnOk result (entries.new.items ≡ entries.old.items ++ declared_in classes.now.text.now classes.now.entries.items scope item) }
 {
     match item {
-        Item::Declared(word, made) => {
-            let class = class_in(classes, scope, word_bytes(classes.text, made.class));
+        Item::Declared(word, used) => {
+            let class = class_in(classes, scope, word_bytes(classes.text, used.class));
             entries.push(Entry {
                 scope: number_of(scope),
                 number: 0,
@@ -132,12 +132,12 @@ fn push_names(
     phrase: Phrase,
 ) -> Result<(), AllocError>
     requires table { IsTable classes.now }
-    requires bound { scope.known < 2 ^ 63 }
+    requires bound { scope.class_count < 2 ^ 63 }
     ensures { OnOk result (entries.new.items ≡ entries.old.items ++ declared_at classes.now.text.now classes.now.entries.items scope waiting.now phrase) }
 {
     match phrase {
-        Phrase::Made(made) => {
-            let class = class_in(classes, scope, word_bytes(classes.text, made.class));
+        Phrase::Made(used) => {
+            let class = class_in(classes, scope, word_bytes(classes.text, used.class));
             push_group(entries, scope, class, waiting)
         }
         Phrase::First(end) => push_declared(entries, classes, scope, end.item),
@@ -160,7 +160,7 @@ pub fn names_of(
     let mut waiting = Vec::new(alloc);
     let mut scope = Scope {
         inside: false,
-        known: 0,
+        class_count: 0,
     };
     let mut rest = phrases;
     while let [phrase, after @ ..] = rest {
@@ -183,8 +183,8 @@ pub fn port_number(port: Option<PortNumber>) -> u32
 }
 
 /// Whether a `->` stands in front of the phrases.
-pub fn joins(phrases: &[Phrase]) -> bool
-    ensures { result ≡ is_joined phrases.now }
+pub fn is_followed(phrases: &[Phrase]) -> bool
+    ensures { result ≡ is_followed phrases.now }
 {
     match phrases {
         [Phrase::Next(_, _), ..] => true,
@@ -207,7 +207,7 @@ fn push_port(
         Item::Name(word) => {
             if scope.inside && word_bytes(text, word) == name {
                 entries.push(Entry {
-                    scope: scope.known,
+                    scope: scope.class_count,
                     number: port_number(port),
                     word,
                     class: None,
@@ -224,12 +224,12 @@ fn push_input(
     entries: &mut Vec<Entry>,
     text: &[u8],
     scope: Scope,
-    joined: bool,
+    followed: bool,
     end: Endpoint,
 ) -> Result<(), AllocError>
-    ensures { OnOk result (entries.new.items ≡ entries.old.items ++ input_at text.now scope joined end) }
+    ensures { OnOk result (entries.new.items ≡ entries.old.items ++ input_at text.now scope followed end) }
 {
-    if joined {
+    if followed {
         push_port(entries, text, scope, b"input", end.output, end.item)
     } else {
         Ok(())
@@ -253,16 +253,16 @@ fn push_ports(
     entries: &mut Vec<Entry>,
     text: &[u8],
     scope: Scope,
-    joined: bool,
+    followed: bool,
     phrase: Phrase,
 ) -> Result<(), AllocError>
-    ensures { OnOk result (entries.new.items ≡ entries.old.items ++ ports_at text.now scope joined phrase) }
+    ensures { OnOk result (entries.new.items ≡ entries.old.items ++ ports_at text.now scope followed phrase) }
 {
     match phrase {
-        Phrase::First(end) => push_input(entries, text, scope, joined, end),
+        Phrase::First(end) => push_input(entries, text, scope, followed, end),
         Phrase::Next(_, end) => {
             push_output(entries, text, scope, end)?;
-            push_input(entries, text, scope, joined, end)
+            push_input(entries, text, scope, followed, end)
         }
         _ => Ok(()),
     }
@@ -276,11 +276,11 @@ pub fn ports_of(alloc: Global, text: &[u8], phrases: &[Phrase]) -> Result<Vec<En
     let mut entries = Vec::new(alloc);
     let mut scope = Scope {
         inside: false,
-        known: 0,
+        class_count: 0,
     };
     let mut rest = phrases;
     while let [phrase, after @ ..] = rest {
-        push_ports(&mut entries, text, scope, joins(after), *phrase)?;
+        push_ports(&mut entries, text, scope, is_followed(after), *phrase)?;
         scope = scope_behind(scope, *phrase);
         rest = after;
     }

@@ -1,43 +1,43 @@
-//! The moments of the walk: what each phrase does or has at fault, each name told as what it stands for.
+//! The actions of the walk: what each phrase does or has at fault, each name told as what it stands for.
 ghost use Rattle.std.specs.Prelude.{◌≡◌, ◌+◌, ◌++◌, ◌^◌, ◌<◌, IfOk, OnOk, None, []};
 ghost use Rattle.mt_click.specs.Scopes.{outside};
 ghost use Rattle.mt_click.specs.Tables.{AreTables, names};
-ghost use Rattle.mt_click.specs.Elements.{own_place};
-ghost use Rattle.mt_click.specs.Moments.{naming, using, counting_of, counting, making_of, making, joining, reaching, written, first_place, left_out, leaving_out, unnamed, named, item_moments, whole_end, end_moments, rooming, group_moments, class_moments, part_moments, moments_from, moments_in};
+ghost use Rattle.mt_click.specs.Elements.{own_offset};
+ghost use Rattle.mt_click.specs.Actions.{naming, using, counting_of, counting, making_of, making, connecting, reaching, written, first_offset, left_out, leaving_out, unnamed, named, item_actions, whole_endpoint, endpoint_actions, rooming, group_actions, class_actions, phrase_actions, actions_from, actions_in};
 
-use crate::known::{
-    Known, class_of_word, has_port, item_class, known_in, makes_new, redeclares, uses_itself,
+use crate::symbols::{
+    Symbols, class_of_word, has_port, item_class, symbols_in, makes_new, redeclares, uses_itself,
 };
-use crate::moment::{Moment, Side};
-use crate::names::{joins, wait};
-use crate::scope::{Scope, scope_behind};
-use crate::sides::{side_of_part, sink_of};
+use crate::action::{Action, Side};
+use crate::names::{is_followed, wait};
+use crate::symbols::{Scope, scope_behind};
+use crate::sides::{side_of_phrase, sink_of};
 use mt_syntax::{ClickWhy, Endpoint, Fault, Item, Phrase, PortNumber, Use, Word};
 use std::alloc::{AllocError, Global};
 
 /// An end of a connection, the class of what it stands for, where that is a use of one, and whether a
 /// `->` stands before the end and behind it.
 #[derive(Clone, Copy)]
-struct Met {
+struct Visited {
     end: Endpoint,
     class: Option<usize>,
     next: bool,
-    joined: bool,
+    followed: bool,
 }
 
-#[tactic(auto, unfolding(crate::specs::Moments::naming))]
+#[tactic(auto, unfolding(crate::specs::Actions::naming))]
 fn push_naming(
-    out: &mut Vec<Moment>,
-    known: &Known<'_>,
+    out: &mut Vec<Action>,
+    symbols: &Symbols<'_>,
     scope: Scope,
     word: Word,
 ) -> Result<(), AllocError>
-    requires tables { AreTables known.now }
-    requires bound { scope.known < 2 ^ 63 }
-    ensures { OnOk result (out.new.items ≡ out.old.items ++ naming (names known.now) scope word) }
+    requires tables { AreTables symbols.now }
+    requires bound { scope.class_count < 2 ^ 63 }
+    ensures { OnOk result (out.new.items ≡ out.old.items ++ naming (names symbols.now) scope word) }
 {
-    if redeclares(known, scope, word) {
-        out.push(Moment::Name(Fault {
+    if redeclares(symbols, scope, word) {
+        out.push(Action::Name(Fault {
             why: ClickWhy::Redeclared,
             at: word.from,
         }))?;
@@ -45,17 +45,17 @@ fn push_naming(
     Ok(())
 }
 
-#[tactic(auto, unfolding(crate::specs::Moments::using))]
+#[tactic(auto, unfolding(crate::specs::Actions::using))]
 fn push_using(
-    out: &mut Vec<Moment>,
-    known: &Known<'_>,
+    out: &mut Vec<Action>,
+    symbols: &Symbols<'_>,
     scope: Scope,
     word: Word,
 ) -> Result<(), AllocError>
-    ensures { OnOk result (out.new.items ≡ out.old.items ++ using (names known.now) scope word) }
+    ensures { OnOk result (out.new.items ≡ out.old.items ++ using (names symbols.now) scope word) }
 {
-    if uses_itself(known, scope, word) {
-        out.push(Moment::Name(Fault {
+    if uses_itself(symbols, scope, word) {
+        out.push(Action::Name(Fault {
             why: ClickWhy::Recursive,
             at: word.from,
         }))?;
@@ -63,19 +63,19 @@ fn push_using(
     Ok(())
 }
 
-#[tactic(auto, unfolding(crate::specs::Moments::counting))]
+#[tactic(auto, unfolding(crate::specs::Actions::counting))]
 fn push_counting(
-    out: &mut Vec<Moment>,
-    known: &Known<'_>,
+    out: &mut Vec<Action>,
+    symbols: &Symbols<'_>,
     scope: Scope,
-    made: Use,
+    used: Use,
 ) -> Result<(), AllocError>
-    requires { AreTables known.now }
-    ensures { OnOk result (out.new.items ≡ out.old.items ++ counting (names known.now) scope made) }
+    requires { AreTables symbols.now }
+    ensures { OnOk result (out.new.items ≡ out.old.items ++ counting (names symbols.now) scope used) }
 {
-    match class_of_word(known, scope, made.class) {
+    match class_of_word(symbols, scope, used.class) {
         Some(class) => {
-            out.push(Moment::Count(class, made))?;
+            out.push(Action::Count(class, used))?;
             Ok(())
         }
         None => Ok(()),
@@ -83,55 +83,55 @@ fn push_counting(
 }
 
 /// Where what a use makes is declared: at its name, or else at its class.
-pub fn place_of_own(own: Option<Word>, made: Use) -> usize
-    ensures { result ≡ own_place own made }
+pub fn offset_of_own(own: Option<Word>, used: Use) -> usize
+    ensures { result ≡ own_offset own used }
 {
     match own {
         Some(word) => word.from,
-        None => made.class.from,
+        None => used.class.from,
     }
 }
 
-fn made_moment(name: Option<Word>, made: Use, class: Option<usize>) -> Moment
-    ensures { result ≡ making_of name made class }
+fn created_action(name: Option<Word>, used: Use, class: Option<usize>) -> Action
+    ensures { result ≡ making_of name used class }
 {
     match class {
-        Some(class) => Moment::Enter(class, made, place_of_own(name, made)),
-        None => Moment::Element(name, made),
+        Some(class) => Action::Enter(class, used, offset_of_own(name, used)),
+        None => Action::Element(name, used),
     }
 }
 
-#[tactic(auto, unfolding(crate::specs::Moments::making))]
+#[tactic(auto, unfolding(crate::specs::Actions::making))]
 fn push_making(
-    out: &mut Vec<Moment>,
-    known: &Known<'_>,
+    out: &mut Vec<Action>,
+    symbols: &Symbols<'_>,
     scope: Scope,
     name: Option<Word>,
-    made: Use,
+    used: Use,
 ) -> Result<(), AllocError>
-    requires { AreTables known.now }
-    ensures { OnOk result (out.new.items ≡ out.old.items ++ making (names known.now) scope name made) }
+    requires { AreTables symbols.now }
+    ensures { OnOk result (out.new.items ≡ out.old.items ++ making (names symbols.now) scope name used) }
 {
-    out.push(made_moment(name, made, class_of_word(known, scope, made.class)))?;
+    out.push(created_action(name, used, class_of_word(symbols, scope, used.class)))?;
     Ok(())
 }
 
-#[tactic(auto, unfolding(crate::specs::Moments::reaching))]
+#[tactic(auto, unfolding(crate::specs::Actions::reaching))]
 fn push_reaching(
-    out: &mut Vec<Moment>,
-    known: &Known<'_>,
+    out: &mut Vec<Action>,
+    symbols: &Symbols<'_>,
     class: Option<usize>,
     side: &[u8],
     number: u32,
     at: usize,
 ) -> Result<(), AllocError>
-    requires { AreTables known.now }
-    ensures { OnOk result (out.new.items ≡ out.old.items ++ reaching (names known.now) class side.now number at) }
+    requires { AreTables symbols.now }
+    ensures { OnOk result (out.new.items ≡ out.old.items ++ reaching (names symbols.now) class side.now number at) }
 {
     match class {
         Some(class) => {
-            if !has_port(known, class, side, number) {
-                out.push(Moment::PortNumber(Fault {
+            if !has_port(symbols, class, side, number) {
+                out.push(Action::MissingPort(Fault {
                     why: ClickWhy::NoPort,
                     at,
                 }))?;
@@ -142,318 +142,318 @@ fn push_reaching(
     }
 }
 
-#[tactic(auto, unfolding(crate::specs::Moments::written))]
+#[tactic(auto, unfolding(crate::specs::Actions::written))]
 fn push_written(
-    out: &mut Vec<Moment>,
-    known: &Known<'_>,
+    out: &mut Vec<Action>,
+    symbols: &Symbols<'_>,
     class: Option<usize>,
     side: &[u8],
     port: Option<PortNumber>,
 ) -> Result<(), AllocError>
-    requires { AreTables known.now }
-    ensures { OnOk result (out.new.items ≡ out.old.items ++ written (names known.now) class side.now port) }
+    requires { AreTables symbols.now }
+    ensures { OnOk result (out.new.items ≡ out.old.items ++ written (names symbols.now) class side.now port) }
 {
     match port {
-        Some(port) => push_reaching(out, known, class, side, port.number, port.at),
+        Some(port) => push_reaching(out, symbols, class, side, port.number, port.at),
         None => Ok(()),
     }
 }
 
-fn place_of_item(item: Item) -> usize
-    ensures { result ≡ first_place item }
+fn offset_of_item(item: Item) -> usize
+    ensures { result ≡ first_offset item }
 {
     match item {
         Item::Name(name) => name.from,
         Item::Declared(name, _) => name.from,
-        Item::Made(made) => made.class.from,
+        Item::Made(used) => used.class.from,
     }
 }
 
-#[tactic(auto, unfolding(crate::specs::Moments::left_out))]
+#[tactic(auto, unfolding(crate::specs::Actions::left_out))]
 fn push_left_out(
-    out: &mut Vec<Moment>,
-    known: &Known<'_>,
+    out: &mut Vec<Action>,
+    symbols: &Symbols<'_>,
     class: Option<usize>,
     side: &[u8],
-    joined: bool,
+    followed: bool,
     port: Option<PortNumber>,
     at: usize,
 ) -> Result<(), AllocError>
-    requires { AreTables known.now }
-    ensures { OnOk result (out.new.items ≡ out.old.items ++ left_out (names known.now) class side.now joined port at) }
+    requires { AreTables symbols.now }
+    ensures { OnOk result (out.new.items ≡ out.old.items ++ left_out (names symbols.now) class side.now followed port at) }
 {
-    if joined && port.is_none() {
-        push_reaching(out, known, class, side, 0, at)
+    if followed && port.is_none() {
+        push_reaching(out, symbols, class, side, 0, at)
     } else {
         Ok(())
     }
 }
 
-#[tactic(auto, unfolding(crate::specs::Moments::leaving_out))]
-fn push_leaving_out(out: &mut Vec<Moment>, known: &Known<'_>, met: Met) -> Result<(), AllocError>
-    requires { AreTables known.now }
-    ensures { OnOk result (out.new.items ≡ out.old.items ++ leaving_out (names known.now) met.class met.next met.joined met.end) }
+#[tactic(auto, unfolding(crate::specs::Actions::leaving_out))]
+fn push_leaving_out(out: &mut Vec<Action>, symbols: &Symbols<'_>, visited: Visited) -> Result<(), AllocError>
+    requires { AreTables symbols.now }
+    ensures { OnOk result (out.new.items ≡ out.old.items ++ leaving_out (names symbols.now) visited.class visited.next visited.followed visited.end) }
 {
-    let at = place_of_item(met.end.item);
-    push_left_out(out, known, met.class, b"input", met.next, met.end.input, at)?;
+    let at = offset_of_item(visited.end.item);
+    push_left_out(out, symbols, visited.class, b"input", visited.next, visited.end.input, at)?;
     push_left_out(
         out,
-        known,
-        met.class,
+        symbols,
+        visited.class,
         b"output",
-        met.joined,
-        met.end.output,
+        visited.followed,
+        visited.end.output,
         at,
     )
 }
 
-#[tactic(auto, unfolding(crate::specs::Moments::unnamed))]
+#[tactic(auto, unfolding(crate::specs::Actions::unnamed))]
 fn push_unnamed(
-    out: &mut Vec<Moment>,
-    known: &Known<'_>,
+    out: &mut Vec<Action>,
+    symbols: &Symbols<'_>,
     scope: Scope,
-    met: Met,
-    made: Use,
+    visited: Visited,
+    used: Use,
 ) -> Result<(), AllocError>
-    requires { AreTables known.now }
-    ensures { OnOk result (out.new.items ≡ out.old.items ++ unnamed (names known.now) scope met.class met.next met.joined met.end made) }
+    requires { AreTables symbols.now }
+    ensures { OnOk result (out.new.items ≡ out.old.items ++ unnamed (names symbols.now) scope visited.class visited.next visited.followed visited.end used) }
 {
-    push_using(out, known, scope, made.class)?;
-    push_counting(out, known, scope, made)?;
-    push_leaving_out(out, known, met)?;
-    push_making(out, known, scope, None, made)
+    push_using(out, symbols, scope, used.class)?;
+    push_counting(out, symbols, scope, used)?;
+    push_leaving_out(out, symbols, visited)?;
+    push_making(out, symbols, scope, None, used)
 }
 
-#[tactic(auto, unfolding(crate::specs::Moments::named))]
+#[tactic(auto, unfolding(crate::specs::Actions::named))]
 fn push_named(
-    out: &mut Vec<Moment>,
-    known: &Known<'_>,
+    out: &mut Vec<Action>,
+    symbols: &Symbols<'_>,
     scope: Scope,
-    met: Met,
+    visited: Visited,
     name: Word,
-    made: Use,
+    used: Use,
 ) -> Result<(), AllocError>
-    requires tables { AreTables known.now }
-    requires bound { scope.known < 2 ^ 63 }
-    ensures { OnOk result (out.new.items ≡ out.old.items ++ named (names known.now) scope met.class met.next met.joined met.end name made) }
+    requires tables { AreTables symbols.now }
+    requires bound { scope.class_count < 2 ^ 63 }
+    ensures { OnOk result (out.new.items ≡ out.old.items ++ named (names symbols.now) scope visited.class visited.next visited.followed visited.end name used) }
 {
-    push_naming(out, known, scope, name)?;
-    push_leaving_out(out, known, met)?;
-    push_using(out, known, scope, made.class)?;
-    push_counting(out, known, scope, made)?;
-    push_making(out, known, scope, Some(name), made)
+    push_naming(out, symbols, scope, name)?;
+    push_leaving_out(out, symbols, visited)?;
+    push_using(out, symbols, scope, used.class)?;
+    push_counting(out, symbols, scope, used)?;
+    push_making(out, symbols, scope, Some(name), used)
 }
 
-#[tactic(auto, unfolding(crate::specs::Moments::item_moments))]
+#[tactic(auto, unfolding(crate::specs::Actions::item_actions))]
 fn push_item(
-    out: &mut Vec<Moment>,
-    known: &Known<'_>,
+    out: &mut Vec<Action>,
+    symbols: &Symbols<'_>,
     scope: Scope,
-    met: Met,
+    visited: Visited,
 ) -> Result<(), AllocError>
-    requires tables { AreTables known.now }
-    requires bound { scope.known < 2 ^ 63 }
-    ensures { OnOk result (out.new.items ≡ out.old.items ++ item_moments (names known.now) scope met.class met.next met.joined met.end met.end.item) }
+    requires tables { AreTables symbols.now }
+    requires bound { scope.class_count < 2 ^ 63 }
+    ensures { OnOk result (out.new.items ≡ out.old.items ++ item_actions (names symbols.now) scope visited.class visited.next visited.followed visited.end visited.end.item) }
 {
-    match met.end.item {
-        Item::Declared(name, made) => { push_named(out, known, scope, met, name, made) }
-        Item::Made(made) => push_unnamed(out, known, scope, met, made),
+    match visited.end.item {
+        Item::Declared(name, used) => { push_named(out, symbols, scope, visited, name, used) }
+        Item::Made(used) => push_unnamed(out, symbols, scope, visited, used),
         Item::Name(word) => {
-            if makes_new(known, scope, word) {
-                let made = Use {
+            if makes_new(symbols, scope, word) {
+                let used = Use {
                     class: word,
                     arguments: None,
                 };
-                push_unnamed(out, known, scope, met, made)
+                push_unnamed(out, symbols, scope, visited, used)
             } else {
-                push_leaving_out(out, known, met)
+                push_leaving_out(out, symbols, visited)
             }
         }
     }
 }
 
-#[tactic(auto, unfolding(crate::specs::Moments::whole_end))]
-fn push_whole_end(
-    out: &mut Vec<Moment>,
-    known: &Known<'_>,
+#[tactic(auto, unfolding(crate::specs::Actions::whole_endpoint))]
+fn push_whole_endpoint(
+    out: &mut Vec<Action>,
+    symbols: &Symbols<'_>,
     scope: Scope,
-    met: Met,
+    visited: Visited,
 ) -> Result<(), AllocError>
-    requires tables { AreTables known.now }
-    requires bound { scope.known < 2 ^ 63 }
-    ensures { OnOk result (out.new.items ≡ out.old.items ++ whole_end (names known.now) scope met.class met.next met.joined met.end) }
+    requires tables { AreTables symbols.now }
+    requires bound { scope.class_count < 2 ^ 63 }
+    ensures { OnOk result (out.new.items ≡ out.old.items ++ whole_endpoint (names symbols.now) scope visited.class visited.next visited.followed visited.end) }
 {
-    push_written(out, known, met.class, b"input", met.end.input)?;
-    push_item(out, known, scope, met)?;
-    push_written(out, known, met.class, b"output", met.end.output)
+    push_written(out, symbols, visited.class, b"input", visited.end.input)?;
+    push_item(out, symbols, scope, visited)?;
+    push_written(out, symbols, visited.class, b"output", visited.end.output)
 }
 
-#[tactic(auto, unfolding(crate::specs::Moments::end_moments))]
-fn push_end(
-    out: &mut Vec<Moment>,
-    known: &Known<'_>,
+#[tactic(auto, unfolding(crate::specs::Actions::endpoint_actions))]
+fn push_endpoint(
+    out: &mut Vec<Action>,
+    symbols: &Symbols<'_>,
     scope: Scope,
     next: bool,
-    joined: bool,
+    followed: bool,
     end: Endpoint,
 ) -> Result<(), AllocError>
-    requires tables { AreTables known.now }
-    requires bound { scope.known < 2 ^ 63 }
-    ensures { OnOk result (out.new.items ≡ out.old.items ++ end_moments (names known.now) scope next joined end) }
+    requires tables { AreTables symbols.now }
+    requires bound { scope.class_count < 2 ^ 63 }
+    ensures { OnOk result (out.new.items ≡ out.old.items ++ endpoint_actions (names symbols.now) scope next followed end) }
 {
-    let met = Met {
+    let visited = Visited {
         end,
-        class: item_class(known, scope, end.item),
+        class: item_class(symbols, scope, end.item),
         next,
-        joined,
+        followed,
     };
-    push_whole_end(out, known, scope, met)
+    push_whole_endpoint(out, symbols, scope, visited)
 }
 
-#[tactic(auto, unfolding(crate::specs::Moments::rooming))]
+#[tactic(auto, unfolding(crate::specs::Actions::rooming))]
 fn push_rooming(
-    out: &mut Vec<Moment>,
-    known: &Known<'_>,
+    out: &mut Vec<Action>,
+    symbols: &Symbols<'_>,
     scope: Scope,
-    made: Use,
+    used: Use,
     waiting: &[Word],
 ) -> Result<(), AllocError>
-    requires { AreTables known.now }
-    ensures { OnOk result (out.new.items ≡ out.old.items ++ rooming (names known.now) scope made waiting.now) }
+    requires { AreTables symbols.now }
+    ensures { OnOk result (out.new.items ≡ out.old.items ++ rooming (names symbols.now) scope used waiting.now) }
 {
-    if class_of_word(known, scope, made.class).is_none() {
-        out.push(Moment::Room(waiting.len(), made))?;
+    if class_of_word(symbols, scope, used.class).is_none() {
+        out.push(Action::Room(waiting.len(), used))?;
     }
     Ok(())
 }
 
-#[tactic(auto, unfolding(crate::specs::Moments::group_moments))]
+#[tactic(auto, unfolding(crate::specs::Actions::group_actions))]
 fn push_group(
-    out: &mut Vec<Moment>,
-    known: &Known<'_>,
+    out: &mut Vec<Action>,
+    symbols: &Symbols<'_>,
     scope: Scope,
-    made: Use,
+    used: Use,
     waiting: &[Word],
 ) -> Result<(), AllocError>
-    requires { AreTables known.now }
-    ensures { OnOk result (out.new.items ≡ out.old.items ++ group_moments (names known.now) scope made waiting.now) }
+    requires { AreTables symbols.now }
+    ensures { OnOk result (out.new.items ≡ out.old.items ++ group_actions (names symbols.now) scope used waiting.now) }
 {
     let mut rest = waiting;
     while let [word, after @ ..] = rest {
-        push_counting(out, known, scope, made)?;
-        push_making(out, known, scope, Some(*word), made)?;
+        push_counting(out, symbols, scope, used)?;
+        push_making(out, symbols, scope, Some(*word), used)?;
         rest = after;
     }
     Ok(())
 }
 
-#[tactic(auto, unfolding(crate::specs::Moments::class_moments))]
+#[tactic(auto, unfolding(crate::specs::Actions::class_actions))]
 fn push_class(
-    out: &mut Vec<Moment>,
-    known: &Known<'_>,
+    out: &mut Vec<Action>,
+    symbols: &Symbols<'_>,
     scope: Scope,
     word: Word,
 ) -> Result<(), AllocError>
-    requires { AreTables known.now }
-    ensures { OnOk result (out.new.items ≡ out.old.items ++ class_moments (names known.now) scope word) }
+    requires { AreTables symbols.now }
+    ensures { OnOk result (out.new.items ≡ out.old.items ++ class_actions (names symbols.now) scope word) }
 {
-    if class_of_word(known, scope, word).is_some() {
-        out.push(Moment::Name(Fault {
+    if class_of_word(symbols, scope, word).is_some() {
+        out.push(Action::Name(Fault {
             why: ClickWhy::Redeclared,
             at: word.from,
         }))?;
     }
-    out.push(Moment::Class)?;
+    out.push(Action::Class)?;
     Ok(())
 }
 
-fn push_joining(
-    out: &mut Vec<Moment>,
+fn push_connecting(
+    out: &mut Vec<Action>,
     arrow: usize,
     from: Option<Side>,
     to: Option<Side>,
 ) -> Result<(), AllocError>
-    ensures { OnOk result (out.new.items ≡ out.old.items ++ joining arrow from to) }
+    ensures { OnOk result (out.new.items ≡ out.old.items ++ connecting arrow from to) }
 {
     if let (Some(from), Some(to)) = (from, to) {
-        out.push(Moment::Join(arrow, from, to))?;
+        out.push(Action::Connect(arrow, from, to))?;
     }
     Ok(())
 }
 
-#[tactic(auto, unfolding(crate::specs::Moments::part_moments))]
+#[tactic(auto, unfolding(crate::specs::Actions::phrase_actions))]
 fn push_phrase(
-    out: &mut Vec<Moment>,
-    known: &Known<'_>,
+    out: &mut Vec<Action>,
+    symbols: &Symbols<'_>,
     scope: Scope,
     waiting: &[Word],
     before: Option<Side>,
-    joined: bool,
+    followed: bool,
     phrase: Phrase,
 ) -> Result<(), AllocError>
-    requires tables { AreTables known.now }
-    requires bound { scope.known < 2 ^ 63 }
-    ensures { OnOk result (out.new.items ≡ out.old.items ++ part_moments (names known.now) scope waiting.now before joined phrase) }
+    requires tables { AreTables symbols.now }
+    requires bound { scope.class_count < 2 ^ 63 }
+    ensures { OnOk result (out.new.items ≡ out.old.items ++ phrase_actions (names symbols.now) scope waiting.now before followed phrase) }
 {
     match phrase {
-        Phrase::Class(word) => push_class(out, known, scope, word),
+        Phrase::Class(word) => push_class(out, symbols, scope, word),
         Phrase::Parameter(word) => {
-            out.push(Moment::Parameter(word))?;
+            out.push(Action::Parameter(word))?;
             Ok(())
         }
         Phrase::Close => {
-            out.push(Moment::Close)?;
+            out.push(Action::Close)?;
             Ok(())
         }
-        Phrase::Declared(word) => push_naming(out, known, scope, word),
-        Phrase::Made(made) => {
-            push_using(out, known, scope, made.class)?;
-            push_rooming(out, known, scope, made, waiting)?;
-            push_group(out, known, scope, made, waiting)
+        Phrase::Declared(word) => push_naming(out, symbols, scope, word),
+        Phrase::Made(used) => {
+            push_using(out, symbols, scope, used.class)?;
+            push_rooming(out, symbols, scope, used, waiting)?;
+            push_group(out, symbols, scope, used, waiting)
         }
-        Phrase::First(end) => push_end(out, known, scope, false, joined, end),
+        Phrase::First(end) => push_endpoint(out, symbols, scope, false, followed, end),
         Phrase::Next(arrow, end) => {
-            push_end(out, known, scope, true, joined, end)?;
-            push_joining(out, arrow, before, sink_of(known, scope, end))
+            push_endpoint(out, symbols, scope, true, followed, end)?;
+            push_connecting(out, arrow, before, sink_of(symbols, scope, end))
         }
     }
 }
 
-#[tactic(auto, unfolding(crate::specs::Moments::moments_from))]
-fn resolved(alloc: Global, known: &Known<'_>, phrases: &[Phrase]) -> Result<Vec<Moment>, AllocError>
-    requires { AreTables known.now }
-    ensures { IfOk result (λ v. v.items ≡ moments_from (names known.now) outside [] None phrases.now) }
+#[tactic(auto, unfolding(crate::specs::Actions::actions_from))]
+fn resolved(alloc: Global, symbols: &Symbols<'_>, phrases: &[Phrase]) -> Result<Vec<Action>, AllocError>
+    requires { AreTables symbols.now }
+    ensures { IfOk result (λ v. v.items ≡ actions_from (names symbols.now) outside [] None phrases.now) }
 {
     let mut out = Vec::new(alloc);
     let mut waiting = Vec::new(alloc);
     let mut before = None;
     let mut scope = Scope {
         inside: false,
-        known: 0,
+        class_count: 0,
     };
     let mut rest = phrases;
     while let [phrase, after @ ..] = rest {
         push_phrase(
             &mut out,
-            known,
+            symbols,
             scope,
             &waiting,
             before,
-            joins(after),
+            is_followed(after),
             *phrase,
         )?;
         wait(&mut waiting, *phrase)?;
-        before = side_of_part(known, scope, *phrase);
+        before = side_of_phrase(symbols, scope, *phrase);
         scope = scope_behind(scope, *phrase);
         rest = after;
     }
     Ok(out)
 }
 
-/// The moments of the walk over a configuration.
-pub fn moments_of(alloc: Global, text: &[u8], phrases: &[Phrase]) -> Result<Vec<Moment>, AllocError>
-    ensures { IfOk result (λ v. v.items ≡ moments_in text.now phrases.now) }
+/// The actions of the walk over a configuration.
+pub fn actions_of(alloc: Global, text: &[u8], phrases: &[Phrase]) -> Result<Vec<Action>, AllocError>
+    ensures { IfOk result (λ v. v.items ≡ actions_in text.now phrases.now) }
 {
-    let known = known_in(alloc, text, phrases)?;
-    resolved(alloc, &known, phrases)
+    let symbols = symbols_in(alloc, text, phrases)?;
+    resolved(alloc, &symbols, phrases)
 }

@@ -1,20 +1,20 @@
 //! The ends of connections.
 ghost use Rattle.std.specs.Prelude.{◌≡◌, ◌^◌, ◌<◌};
 ghost use Rattle.mt_click.specs.Tables.{AreTables, names};
-ghost use Rattle.mt_click.specs.Moments.{declared_place, place_at, name_side, item_side, source, sink, side_behind};
+ghost use Rattle.mt_click.specs.Actions.{declared_index, offset_at, name_side, item_side, source, sink, side_behind};
 
-use crate::known::{Known, is_pseudo_name, place_declared};
-use crate::moment::Side;
+use crate::symbols::{Symbols, is_pseudo_name, index_declared};
+use crate::action::Side;
 use crate::names::port_number;
-use crate::scope::Scope;
+use crate::symbols::Scope;
 use mt_syntax::{Endpoint, Item, Phrase, Word, word_bytes};
 
-// Where what is declared at a place among the names is made.
-fn place_made(known: &Known<'_>, at: usize, place: Option<usize>) -> usize
-    ensures { result ≡ place_at (names known.now).names at place }
+// Where what is declared at a place among the names is used.
+fn offset_created(symbols: &Symbols<'_>, at: usize, index: Option<usize>) -> usize
+    ensures { result ≡ offset_at (names symbols.now).names at index }
 {
-    match place {
-        Some(place) => match known.names.entries.get(place) {
+    match index {
+        Some(index) => match symbols.names.entries.get(index) {
             Some(entry) => entry.word.from,
             None => at,
         },
@@ -22,19 +22,19 @@ fn place_made(known: &Known<'_>, at: usize, place: Option<usize>) -> usize
     }
 }
 
-#[tactic(auto, unfolding(crate::specs::Moments::name_side))]
+#[tactic(auto, unfolding(crate::specs::Actions::name_side))]
 fn side_of_name(
-    known: &Known<'_>,
+    symbols: &Symbols<'_>,
     scope: Scope,
     border: &[u8],
     port: u32,
     word: Word,
 ) -> Option<Side>
-    requires tables { AreTables known.now }
-    requires bound { scope.known < 2 ^ 63 }
-    ensures { result ≡ name_side (names known.now) scope border.now port word }
+    requires tables { AreTables symbols.now }
+    requires bound { scope.class_count < 2 ^ 63 }
+    ensures { result ≡ name_side (names symbols.now) scope border.now port word }
 {
-    let name = word_bytes(known.text, word);
+    let name = word_bytes(symbols.text, word);
     if is_pseudo_name(scope, name) {
         if name == border {
             Some(Side::Border(port))
@@ -42,59 +42,59 @@ fn side_of_name(
             None
         }
     } else {
-        let place = place_declared(known, scope, name);
-        Some(Side::Made(place_made(known, word.from, place), port))
+        let index = index_declared(symbols, scope, name);
+        Some(Side::Created(offset_created(symbols, word.from, index), port))
     }
 }
 
-#[tactic(auto, unfolding(crate::specs::Moments::item_side))]
+#[tactic(auto, unfolding(crate::specs::Actions::item_side))]
 fn side_of_item(
-    known: &Known<'_>,
+    symbols: &Symbols<'_>,
     scope: Scope,
     border: &[u8],
     port: u32,
     item: Item,
 ) -> Option<Side>
-    requires tables { AreTables known.now }
-    requires bound { scope.known < 2 ^ 63 }
-    ensures { result ≡ item_side (names known.now) scope border.now port item }
+    requires tables { AreTables symbols.now }
+    requires bound { scope.class_count < 2 ^ 63 }
+    ensures { result ≡ item_side (names symbols.now) scope border.now port item }
 {
     match item {
-        Item::Declared(word, _) => Some(Side::Made(word.from, port)),
-        Item::Made(made) => Some(Side::Made(made.class.from, port)),
-        Item::Name(word) => side_of_name(known, scope, border, port, word),
+        Item::Declared(word, _) => Some(Side::Created(word.from, port)),
+        Item::Made(used) => Some(Side::Created(used.class.from, port)),
+        Item::Name(word) => side_of_name(symbols, scope, border, port, word),
     }
 }
 
-#[tactic(auto, unfolding(crate::specs::Moments::source))]
-fn source_of(known: &Known<'_>, scope: Scope, end: Endpoint) -> Option<Side>
-    requires tables { AreTables known.now }
-    requires bound { scope.known < 2 ^ 63 }
-    ensures { result ≡ source (names known.now) scope end }
+#[tactic(auto, unfolding(crate::specs::Actions::source))]
+fn source_of(symbols: &Symbols<'_>, scope: Scope, end: Endpoint) -> Option<Side>
+    requires tables { AreTables symbols.now }
+    requires bound { scope.class_count < 2 ^ 63 }
+    ensures { result ≡ source (names symbols.now) scope end }
 {
-    side_of_item(known, scope, b"input", port_number(end.output), end.item)
+    side_of_item(symbols, scope, b"input", port_number(end.output), end.item)
 }
 
 /// What a connection to an end leads to.
-#[tactic(auto, unfolding(crate::specs::Moments::sink))]
-pub fn sink_of(known: &Known<'_>, scope: Scope, end: Endpoint) -> Option<Side>
-    requires tables { AreTables known.now }
-    requires bound { scope.known < 2 ^ 63 }
-    ensures { result ≡ sink (names known.now) scope end }
+#[tactic(auto, unfolding(crate::specs::Actions::sink))]
+pub fn sink_of(symbols: &Symbols<'_>, scope: Scope, end: Endpoint) -> Option<Side>
+    requires tables { AreTables symbols.now }
+    requires bound { scope.class_count < 2 ^ 63 }
+    ensures { result ≡ sink (names symbols.now) scope end }
 {
-    side_of_item(known, scope, b"output", port_number(end.input), end.item)
+    side_of_item(symbols, scope, b"output", port_number(end.input), end.item)
 }
 
 /// What a connection leads from that stands behind a phrase.
-#[tactic(auto, unfolding(crate::specs::Moments::side_behind))]
-pub fn side_of_part(known: &Known<'_>, scope: Scope, phrase: Phrase) -> Option<Side>
-    requires tables { AreTables known.now }
-    requires bound { scope.known < 2 ^ 63 }
-    ensures { result ≡ side_behind (names known.now) scope phrase }
+#[tactic(auto, unfolding(crate::specs::Actions::side_behind))]
+pub fn side_of_phrase(symbols: &Symbols<'_>, scope: Scope, phrase: Phrase) -> Option<Side>
+    requires tables { AreTables symbols.now }
+    requires bound { scope.class_count < 2 ^ 63 }
+    ensures { result ≡ side_behind (names symbols.now) scope phrase }
 {
     match phrase {
-        Phrase::First(end) => source_of(known, scope, end),
-        Phrase::Next(_, end) => source_of(known, scope, end),
+        Phrase::First(end) => source_of(symbols, scope, end),
+        Phrase::Next(_, end) => source_of(symbols, scope, end),
         _ => None,
     }
 }

@@ -299,7 +299,7 @@ fn connections_become_wires(rt: HostRuntime) -> Result<(), Fail> {
             "elementclass S { input [2] -> [1] output; input -> [3] output } s :: S; A -> [2] s; B -> s; s [1] -> C; s [3] -> D",
             "4 0.0>2.0@1 1.0>3.0@1",
         ),
-        // A way that forks and joins is one wire, and a fork without a join is two.
+        // A path that forks and joins is one wire, and a fork without a join is two.
         (
             "elementclass F { input -> [1] output; input -> output } f :: F; b :: B; A -> f -> b; f [1] -> b",
             "2 1.0>0.0@1",
@@ -313,7 +313,7 @@ fn connections_become_wires(rt: HostRuntime) -> Result<(), Fail> {
             "elementclass F { input -> B; input -> C } f :: F; a :: A -> f; a -> f",
             "3 2.0>0.0@1 2.0>1.0@1 2.0>0.0@1 2.0>1.0@1",
         ),
-        // Ways without a real end, and ways in a ring.
+        // PathsFound without a real end, and paths in a ring.
         ("elementclass T { input -> output } T -> A; B -> T", "2"),
         (
             "elementclass T { input -> output } t :: T; t -> t; A -> t -> B",

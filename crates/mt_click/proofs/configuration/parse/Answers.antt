@@ -1,4 +1,4 @@
-use Rattle.mt_click.proofs.Denoted.{parses, refuses, only_found, few_found, within_found, names_found, arguments_found}
+use Rattle.mt_click.proofs.GraphOfText.{parses, refuses, only_found, few_found, within_found, names_found, arguments_found}
 use Rattle.mt_click.proofs.configuration.parse.Goals as goal
 
 pub returns-clause-exact : goal.returns-clause-exact

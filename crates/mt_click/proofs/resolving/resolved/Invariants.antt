@@ -1,13 +1,13 @@
 use Rattle.std.proofs.Common.{◌≡◌, ◌≤◌, ◌+◌, ◌++◌, [], None, length}
 use Rattle.mt_click.specs.Scopes.{outside}
 use Rattle.mt_click.specs.Tables.{names}
-use Rattle.mt_click.specs.Moments.{moments_from}
+use Rattle.mt_click.specs.Actions.{actions_from}
 use Rattle.mt_click.proofs.resolving.resolved.Given as goal
 
 abbrev pub invariant-loop-rest : goal.invariant-loop-rest
 invariant-loop-rest l = record {
-  moments : l.out.items ++ moments_from (names l.known) l.scope l.waiting.items l.before l.rest ≡ moments_from (names l.known) outside [] None l.phrases;
-  bound : l.scope.known + length l.rest ≤ length l.phrases;
+  actions : l.out.items ++ actions_from (names l.symbols) l.scope l.waiting.items l.before l.rest ≡ actions_from (names l.symbols) outside [] None l.phrases;
+  bound : l.scope.class_count + length l.rest ≤ length l.phrases;
 }
 
 abbrev pub decreases-loop-rest : goal.decreases-loop-rest

@@ -1,9 +1,0 @@
-use Rattle.std.proofs.Common.{◌++◌, List, sym, ap, ◌∙◌}
-use Rattle.std.proofs.lemmas.List.{append-nil}
-use Rattle.mt_syntax.specs.declared.replacing.Binding.{Binding}
-use Rattle.mt_click.proofs.Uses.{bound_none}
-use Rattle.mt_click.proofs.expand.bindings_of.Goals as goal
-
-pub returns : goal.returns
-returns c =
-    sym (append-nil c.loop-rest.bindings.items) ∙ ap (λ (x : List Binding). c.loop-rest.bindings.items ++ x) (sym (bound_none c.args.text.now c.loop-rest.moments.now c.loop-rest.rest.now c.in_default.len_below)) ∙ c.loop-rest.invariant

@@ -1,9 +1,0 @@
-use Rattle.std.proofs.Common.{◌≡◌, ◌++◌, length}
-use Rattle.mt_click.specs.Walk.{bound}
-use Rattle.mt_click.proofs.expand.bindings_of.Given as goal
-
-abbrev pub invariant-loop-rest : goal.invariant-loop-rest
-invariant-loop-rest l = l.bindings.items ++ bound l.text l.moments l.rest ≡ bound l.text l.body l.arguments
-
-abbrev pub decreases-loop-rest : goal.decreases-loop-rest
-decreases-loop-rest l = length l.rest

@@ -1,6 +1,0 @@
-use Rattle.mt_click.specs.contracts.link.NodeEq.TheImpl.Laws.{laws-law}
-use Rattle.mt_click.proofs.Networks.{distinct_apart}
-use Rattle.mt_click.proofs.network.number.Goals as goal
-
-pub returns-clause-apart : goal.returns-clause-apart
-returns-clause-apart c = distinct_apart _ (laws-law).refl c.insert_full.new.self.keys c.insert_full.ensures.unique
