@@ -14,7 +14,7 @@ use Rattle.mt_syntax.specs.Balance.{IsClosed, AreClosed}
 use Rattle.mt_syntax.specs.Grammar.{UseTree, print_use, IsUse, use_of, PortTree, print_port, ItemTree, alone, named, made, print_item, IsItem, EndpointTree, print_endpoint, IsEndpoint, print_endpoints, AreEndpoints, print_more, StatementTree, connect, declare, print_statement, IsStatement, InnerTree, sign, plain, print_body, IsBody, ClassTree, print_parameters, print_class, IsClass, OuterTree, outer, class, print_config, IsConfig}
 use Rattle.mt_click.specs.Declarations.{Declaration, classes_of}
 use Rattle.mt_click.specs.Acts.{Sight, is_border, class_meant, name_meant, Act, element, expand, making_act, make, bare_use, lone, item_acts, item_class, coming, leaving, end_acts, side_left, side_reached, connecting, has_next, next_acts, group_acts, statement_acts, body_acts, outside_acts}
-use Rattle.mt_click.proofs.PathsFound.{cases_in, none_in}
+use Rattle.mt_lists.proofs.Members.{cases_in, none_in}
 
 -- an argument text, where there is one, ends at its `)`
 abbrev pub IsClosedWord : List ℕ → Option Word → Type 0

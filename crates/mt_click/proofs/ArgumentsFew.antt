@@ -20,7 +20,7 @@ use Rattle.mt_click.specs.Acts.{body_sight, Act, body_acts, outside_acts}
 use Rattle.mt_click.specs.Elements.{Context, State, arguments_in, element_of, own_offset, empty, top, with_element, with_use, with_connection}
 use Rattle.mt_click.specs.Expands.{bindings_of, context_inside, Builds, done, makes, expands, comes, leaves, connects, Expands}
 use Rattle.mt_click.specs.Sound.{AreArgumentsFew}
-use Rattle.mt_click.proofs.PathsFound.{cases_in, none_in}
+use Rattle.mt_lists.proofs.Members.{cases_in, none_in}
 use Rattle.mt_click.proofs.ActNames.{StandsIn, Stands, body_tells, outside_tells}
 use Rattle.mt_click.proofs.NamesApart.{stands_there}
 use Rattle.mt_click.proofs.ArgumentsClosed.{IsClosedWord, AreClosedActs, body_closed, outside_closed, enclosed}

@@ -18,8 +18,8 @@ use Rattle.mt_click.specs.Acts.{body_sight, Act, body_acts, outside_acts}
 use Rattle.mt_click.specs.Elements.{Context, State, own_offset, empty, top, with_element, with_use, with_connection}
 use Rattle.mt_click.specs.Expands.{context_inside, Builds, done, makes, expands, comes, leaves, connects, Expands}
 use Rattle.mt_click.specs.Connections.{is_created, item_from, item_created, left_at, reached_at, source_of, target_of, IsElsewhere, AreCreatedOnce, HasEnds, IsConnected}
-use Rattle.mt_click.proofs.PathsFound.{first_in, later_in, cases_in, none_in}
-use Rattle.mt_click.proofs.Pairs.{first_with, later_pairs, front_pairs, back_pairs}
+use Rattle.mt_lists.proofs.Members.{first_in, later_in, cases_in, none_in}
+use Rattle.mt_lists.proofs.Pairs.{first_with, later_pairs, front_pairs, back_pairs}
 use Rattle.mt_click.proofs.ActNames.{StandsIn, body_tells, outside_tells}
 use Rattle.mt_click.proofs.NamesApart.{stands_there}
 use Rattle.mt_click.proofs.OffsetsOfActs.{sites, sites_apart, body_sited, outside_sited}

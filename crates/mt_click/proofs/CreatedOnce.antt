@@ -10,8 +10,8 @@ use Rattle.mt_click.specs.Acts.{body_sight, Act, body_acts}
 use Rattle.mt_click.specs.Elements.{Context, State, own_offset, with_element, with_use, with_connection}
 use Rattle.mt_click.specs.Expands.{context_inside, Builds, done, makes, expands, comes, leaves, connects}
 use Rattle.mt_click.specs.Connections.{IsElsewhere, AreCreatedOnce}
-use Rattle.mt_click.proofs.PathsFound.{first_in, later_in, cases_in, none_in}
-use Rattle.mt_click.proofs.Pairs.{first_with, later_pairs, no_pairs, one_first, pairs_both}
+use Rattle.mt_lists.proofs.Members.{first_in, later_in, cases_in, none_in}
+use Rattle.mt_lists.proofs.Pairs.{first_with, later_pairs, no_pairs, one_first, pairs_both}
 use Rattle.mt_click.proofs.ActNames.{StandsIn, Stands}
 use Rattle.mt_click.proofs.OffsetsOfActs.{sites, AreApart}
 

@@ -27,7 +27,7 @@ use Rattle.mt_click.proofs.NamesApart.{names_apart}
 use Rattle.mt_click.proofs.ArgumentsFew.{arguments_few}
 use Rattle.mt_click.proofs.WiresWithin.{within, at_most}
 use Rattle.mt_click.proofs.OneListOfPaths.{one_graph}
-use Rattle.mt_click.proofs.Pairs.{front_pairs}
+use Rattle.mt_lists.proofs.Pairs.{front_pairs}
 
 -- a text that is read derives a tree, and one that is not stops
 data Case (text : List ℕ) : Type 0 where

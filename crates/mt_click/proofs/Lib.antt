@@ -8,7 +8,6 @@ pub mod WiresWithin
 pub mod PathOrder
 pub mod ItemTables
 pub mod OneListOfPaths
-pub mod Pairs
 pub mod NamesIdentifiers
 pub mod ScopeTexts
 pub mod ActNames

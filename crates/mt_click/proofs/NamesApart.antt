@@ -14,8 +14,8 @@ use Rattle.mt_click.specs.Acts.{body_sight, Act, body_acts, outside_acts}
 use Rattle.mt_click.specs.Elements.{Context, State, element_of, scope_text, own_offset, empty, top, with_element, with_use, with_connection}
 use Rattle.mt_click.specs.Expands.{IsOther, AreOnce, IsRightClass, AreRightClasses, context_inside, Builds, done, makes, expands, comes, leaves, connects, Expands}
 use Rattle.mt_click.specs.Sound.{IsOwn, AreNamesApart}
-use Rattle.mt_click.proofs.PathsFound.{first_in, later_in, cases_in, none_in}
-use Rattle.mt_click.proofs.Pairs.{first_with, later_pairs, no_pairs, one_first, pairs_both}
+use Rattle.mt_lists.proofs.Members.{first_in, later_in, cases_in, none_in}
+use Rattle.mt_lists.proofs.Pairs.{first_with, later_pairs, no_pairs, one_first, pairs_both}
 use Rattle.mt_syntax.specs.Spelled.{IsIdentifier}
 use Rattle.mt_click.proofs.NamesIdentifiers.{AreNamed, AreIdentifiers, spelled, body_identified, outside_identified}
 use Rattle.mt_click.proofs.ScopeTexts.{HasNoSlash, before_slash, slash_in, identifier_plain, identifier_some, decimal_plain, scope_more, scope_alone}

@@ -21,7 +21,8 @@ use Rattle.mt_click.specs.Acts.{Sight, body_sight, is_border, class_meant, name_
 use Rattle.mt_click.specs.Expands.{IsOther, AreOnce, AreClassesOnce, lone_use, item_uses, next_uses, statement_uses, body_uses, IsRightClass, AreRightClasses}
 use Rattle.mt_click.specs.Spread.{Found, naming_of, using_of, is_own_name, counting_at, counting_of, making_at, making_of, is_in, reaching_of, written_of, left_out_of, first_of, leaving_out_of, unnamed_of, named_of, item_of_end, whole_of, actions_of_endpoint, connecting_of, actions_of_next, names_of_group, making_of_group, rooming_at, rooming_of, actions_of_statement, actions_of_body, class_naming}
 use Rattle.mt_click.proofs.BodyWalk.{is_free, free_append}
-use Rattle.mt_click.proofs.NamesOnce.{and_split, and_join, not_passed, never, has, fresh, fresh_append, fresh_once, once_fresh}
+use Rattle.mt_lists.proofs.Bools.{and_true}
+use Rattle.mt_click.proofs.NamesOnce.{and_join, not_passed, never, has, fresh, fresh_append, fresh_once, once_fresh}
 
 abbrev pub name_in : List ℕ → Declaration → List ℕ
 name_in text d = spelling text d.name
@@ -381,7 +382,7 @@ faultless_is text declared classes earlier (class c ∷ us) =
 apart_if : (text : List ℕ) (before : List ClassTree) (c : ClassTree) (ts : List Token) → are_apart (body_sight text before c) ts ≡ true → AllByRecursion (λ t. IsOther text t c.name) ts
 apart_if text before c [] h = tt
 apart_if text before c (t ∷ ts) h =
-    let split = and_split (is_apart (body_sight text before c) t) (are_apart (body_sight text before c) ts) h in
+    let split = and_true (is_apart (body_sight text before c) t) (are_apart (body_sight text before c) ts) h in
     let other : bytes_eq (spelling text c.name) (spelling text t) ≡ false = not_passed (bytes_eq (spelling text c.name) (spelling text t)) split.0 in
     ((λ same. let q : true ≡ false = sym ((bytes_eq-Decides (spelling text c.name) (spelling text t)).1 (sym same)) ∙ other in cc), apart_if text before c ts split.1)
 
@@ -394,7 +395,7 @@ if_apart text before c (t ∷ ts) h =
 right_if : (text : List ℕ) (before : List ClassTree) (c : ClassTree) → is_right text before c ≡ true → IsRightClass text before c
 right_if text before c h =
     let s = body_sight text before c in
-    let split = and_split (are_fresh s [] (declared_body before c.body)) (are_apart s (body_uses s c.body)) h in
+    let split = and_true (are_fresh s [] (declared_body before c.body)) (are_apart s (body_uses s c.body)) h in
     let names = fresh_once (name_in text) (is_wrong s) (declared_body before c.body) split.0 in
     record { once = names.0; inner = names.1; apart = apart_if text before c (body_uses s c.body) split.1 }
 
@@ -407,7 +408,7 @@ if_right text before c h =
 all_right_if : (text : List ℕ) (before cs : List ClassTree) → are_right text before cs ≡ true → AreRightClasses text before cs
 all_right_if text before [] h = tt
 all_right_if text before (c ∷ cs) h =
-    let split = and_split (is_right text before c) (are_right text (before ++ c ∷ []) cs) h in
+    let split = and_true (is_right text before c) (are_right text (before ++ c ∷ []) cs) h in
     (right_if text before c split.0, all_right_if text (before ++ c ∷ []) cs split.1)
 
 if_all_right : (text : List ℕ) (before cs : List ClassTree) → AreRightClasses text before cs → are_right text before cs ≡ true
@@ -432,8 +433,8 @@ right_names text tree h =
     let a = fresh (name_in text) no_name [] ds in
     let b = fresh (class_name_in text) no_class [] cs in
     let c = are_right text [] cs in
-    let first = and_split a (b && c) (sym (faultless_is text ds [] [] tree) ∙ h) in
-    let second = and_split b c first.1 in
+    let first = and_true a (b && c) (sym (faultless_is text ds [] [] tree) ∙ h) in
+    let second = and_true b c first.1 in
     record {
       once = (fresh_once (name_in text) no_name ds first.0).0;
       classes_once = (fresh_once (class_name_in text) no_class cs second.0).0;

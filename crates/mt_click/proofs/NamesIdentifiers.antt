@@ -7,7 +7,7 @@ use Rattle.mt_syntax.specs.declared.token.Token.{Token}
 use Rattle.mt_syntax.specs.Spelled.{IsIdentifier}
 use Rattle.mt_syntax.specs.Grammar.{UseTree, print_use, ItemTree, alone, named, made, print_item, IsItem, EndpointTree, print_port, print_endpoint, IsEndpoint, print_endpoints, AreEndpoints, print_more, AreMore, StatementTree, connect, declare, print_statement, IsStatement, InnerTree, sign, plain, print_body, IsBody, ClassTree, print_parameters, print_class, IsClass, OuterTree, outer, class, print_config, IsConfig}
 use Rattle.mt_click.specs.Declarations.{spelling, Declaration, declared_item, declared_next, declared_more, declared_statement, declared_body, declared_outside, classes_of}
-use Rattle.mt_click.proofs.PathsFound.{first_in, later_in, cases_in, none_in}
+use Rattle.mt_lists.proofs.Members.{first_in, later_in, cases_in, none_in}
 
 -- each name among some tokens is spelled as an identifier
 abbrev pub AreNames : List ℕ → List Token → Type 0

@@ -7,10 +7,7 @@ use Rattle.std.proofs.Math.Seq.{get_or-append_seam}
 use Rattle.std.proofs.lemmas.List.{append_assoc, append-nil, length-append, get_or_append_left}
 use Rattle.std.proofs.lemmas.List.Quantifiers.{all_pairs_push}
 use Rattle.std.proofs.lemmas.Slice.Eq.{bytes_eq-Decides}
-
-pub and_split : (a b : Bool) → (a && b) ≡ true → (a ≡ true) × (b ≡ true)
-and_split true b h = (refl, h)
-and_split false b h = absurd (let q : false ≡ true = h in cc)
+use Rattle.mt_lists.proofs.Bools.{and_true}
 
 pub and_join : (a b : Bool) → a ≡ true → b ≡ true → (a && b) ≡ true
 and_join true b h k = k
@@ -86,7 +83,7 @@ fresh_more : {X : Type 0} (key : X → List ℕ) (wrong : X → Bool) (earlier x
     → AreApart key (earlier ++ xs) × NoneWrong wrong xs
 fresh_more key wrong earlier [] h apart = (subst (AreApart key) (sym (append-nil earlier)) apart, tt)
 fresh_more key wrong earlier (x ∷ xs) h apart =
-    let split = and_split (not (wrong x || has key earlier (key x))) (fresh key wrong (earlier ++ x ∷ []) xs) h in
+    let split = and_true (not (wrong x || has key earlier (key x))) (fresh key wrong (earlier ++ x ∷ []) xs) h in
     let first = neither (wrong x) (has key earlier (key x)) split.0 in
     let later = fresh_more key wrong (earlier ++ x ∷ []) xs split.1 (all_pairs_push (λ a b. key a ≡ key b → ⊥) earlier x apart (λ k d lt e. has_none key earlier (key x) first.1 k d lt e)) in
     (subst (AreApart key) (append_assoc earlier (x ∷ []) xs) later.0, ((λ q. let r : true ≡ false = sym q ∙ first.0 in cc), later.1))

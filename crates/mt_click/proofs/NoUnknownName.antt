@@ -1,5 +1,5 @@
 -- The place of a byte that no comment hides.
-use Rattle.std.proofs.Common.{◌≡◌, ℕ, zero, suc, ◌+◌, ◌-◌, ◌<◌, List, [], ◌∷◌, length, Option, Some, None, refl, arith, ap, sym, ◌∙◌}
+use Rattle.std.proofs.Common.{◌≡◌, ℕ, List, [], ◌∷◌, length, Option, Some, None, refl, arith, ap, ◌∙◌}
 use Rattle.std.proofs.Common.{Result, Ok, Err, Bool, true}
 use Rattle.mt_syntax.specs.declared.fault.ClickWhy.TheVariants as whys
 use Rattle.mt_syntax.specs.declared.fault.Fault.{Fault}

@@ -14,8 +14,8 @@ use Rattle.mt_syntax.specs.Grammar.{UseTree, use_of, print_use, PortTree, print_
 use Rattle.mt_click.specs.Declarations.{Declaration, declaration, declared_item, declared_next, declared_more, declared_statement, declared_body, declared_outside}
 use Rattle.mt_click.specs.Acts.{Sight, is_border, class_meant, name_meant, Act, element, expand, making_act, make, bare_use, lone, item_acts, item_class, coming, leaving, end_acts, side_left, side_reached, connecting, has_next, next_acts, group_acts, statement_acts, body_acts, outside_acts}
 use Rattle.mt_click.specs.Elements.{own_offset}
-use Rattle.mt_click.proofs.PathsFound.{first_in, cases_in, none_in}
-use Rattle.mt_click.proofs.Pairs.{no_pairs, one_first}
+use Rattle.mt_lists.proofs.Members.{first_in, cases_in, none_in}
+use Rattle.mt_lists.proofs.Pairs.{no_pairs, one_first}
 use Rattle.mt_click.proofs.NamesAscend.{Above, above_all}
 
 -- the places at which acts make elements and use classes

@@ -10,7 +10,7 @@ use Rattle.mt_click.specs.Elements.{State}
 use Rattle.mt_click.specs.Connections.{connections_in}
 use Rattle.mt_click.specs.Wires.{IsBefore, ArePaths, AreWires, wire_of}
 use Rattle.mt_click.specs.Building.{built_in, IsWalked}
-use Rattle.mt_click.proofs.PathsFound.{first_in, later_in, cases_in, none_in}
+use Rattle.mt_lists.proofs.Members.{first_in, later_in, cases_in, none_in}
 
 -- a path does not stand before itself, nor two before one another
 apart : {A B C D : Type 0} → A ⊎ B → C ⊎ D → (A → C → ⊥) → (A → D → ⊥) → (B → C → ⊥) → (B → D → ⊥) → ⊥

@@ -1,9 +1,10 @@
 -- The paths that are found are the paths of the connections.
-use Rattle.std.proofs.Common.{◌≡◌, ◌↔◌, ℕ, zero, suc, ◌+◌, ◌≤◌, ◌⊎◌, inl, inr, List, [], ◌∷◌, ◌++◌, length, slice_get, Option, Some, None, refl, sym, ap, ◌∙◌, subst, arith}
+use Rattle.std.proofs.Common.{◌≡◌, ◌↔◌, ℕ, ◌+◌, ◌≤◌, ◌⊎◌, inl, inr, List, [], ◌∷◌, ◌++◌, length, slice_get, Option, Some, None, sym, ap, ◌∙◌, subst, arith}
 use Rattle.std.specs.List.{Contains}
 use Rattle.std.proofs.lemmas.Option.{slice_get_within}
 use Rattle.std.proofs.lemmas.List.Elements.{Contains-append_left, Contains-append_right, Contains-append_cases}
 use Rattle.std.proofs.lemmas.Bool.{cases_lt}
+use Rattle.mt_lists.proofs.Members.{first_in, later_in, cases_in, none_in}
 use Rattle.mt_reach.specs.Reach.{targets_of, Reaches}
 use Rattle.mt_click.specs.declared.connections.Port.{Port}
 use Rattle.mt_click.specs.declared.connections.Port.TheVariants as port_kinds
@@ -13,19 +14,6 @@ use Rattle.mt_click.specs.Networks.{StandsAt, IsNetwork}
 use Rattle.mt_click.specs.Searched.{ending, endings, IsFound, IsPathBelow}
 use Rattle.mt_click.specs.Wires.{Leads, IsPath}
 use Rattle.mt_click.proofs.NetworkNumbers.{some_same, member, contained, sound, complete}
-
-pub first_in : {X : Type 0} (x : X) (xs : List X) → Contains (x ∷ xs) x
-first_in x xs = (0, omega arith, refl)
-
-pub later_in : {X : Type 0} (x : X) (xs : List X) (y : X) → Contains xs y → Contains (x ∷ xs) y
-later_in x xs y c = (suc c.0, (let lt = c.1 in omega (arith, lt)), c.2)
-
-pub cases_in : {X : Type 0} (x : X) (xs : List X) (y : X) → Contains (x ∷ xs) y → (x ≡ y) ⊎ Contains xs y
-cases_in x xs y (zero, lt, e) = inl e
-cases_in x xs y (suc k, lt, e) = inr (k, omega arith, e)
-
-pub none_in : {X : Type 0} {A : Type 0} (y : X) → Contains [] y → A
-none_in y c = let lt = c.1 in absurd (omega (arith, lt))
 
 -- a path that ends at a port of an element
 pub record Ends (first : Path) (p : Option Port) (w : Path) : Type 0 where

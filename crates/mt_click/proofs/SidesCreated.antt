@@ -14,7 +14,7 @@ use Rattle.mt_click.specs.Declarations.{spelling, Declaration, declared_under, p
 use Rattle.mt_click.specs.Acts.{Sight, is_border, class_meant, name_meant, Act, join, making_act, make, bare_use, lone, item_acts, item_class, coming, leaving, end_acts, lone_side, side, side_left, side_reached, connecting, has_next, next_acts, group_acts, statement_acts, body_acts, outside_acts}
 use Rattle.mt_click.specs.Elements.{own_offset}
 use Rattle.mt_click.proofs.NetworkNumbers.{some_same}
-use Rattle.mt_click.proofs.PathsFound.{first_in, later_in}
+use Rattle.mt_lists.proofs.Members.{first_in, later_in}
 use Rattle.mt_click.proofs.OffsetsOfActs.{sites, sites_both, make_sites}
 
 -- an end is a border, or what is made at one of some places

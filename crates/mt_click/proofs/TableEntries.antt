@@ -7,6 +7,7 @@ use denote.Ref.{Bor}
 use Rattle.std.proofs.lemmas.Bool.{eqb-true}
 use Rattle.std.proofs.lemmas.Slice.Eq.{bytes_eq-Decides}
 use Rattle.std.proofs.lemmas.List.{at_drop_more}
+use Rattle.mt_lists.proofs.Bools.{and_true}
 use Rattle.mt_click.specs.declared.symbols.Entry.{Entry}
 use Rattle.mt_syntax.specs.Words.{bytes_of}
 use Rattle.mt_click.specs.Names.{is_entry, first_from, first_entry}
@@ -26,14 +27,10 @@ lookup_more test (x ∷ xs) k v = by (test x.0) (lookup_more test xs k v)
     by true e = refl
     by false e = e
 
-true_and : (a b : Bool) → (a && b) ≡ true → (a ≡ true) × (b ≡ true)
-true_and true b e = (refl, e)
-true_and false b e = absurd (let x : false ≡ true = e in cc)
-
 pub same_key : (text : List ℕ) (scope number : ℕ) (name : List ℕ) (e : Entry) → is_entry text scope number name e ≡ true → (scope ≡ e.scope) × (number ≡ e.number) × (name ≡ bytes_of text e.word)
 same_key text scope number name e t =
-    let a = true_and (nat_eq scope e.scope && nat_eq number e.number) (bytes_eq name (bytes_of text e.word)) t in
-    let b = true_and (nat_eq scope e.scope) (nat_eq number e.number) a.0 in
+    let a = and_true (nat_eq scope e.scope && nat_eq number e.number) (bytes_eq name (bytes_of text e.word)) t in
+    let b = and_true (nat_eq scope e.scope) (nat_eq number e.number) a.0 in
     (eqb-true scope e.scope b.0, eqb-true number e.number b.1, (bytes_eq-Decides name (bytes_of text e.word)).0 a.1)
 
 or_same : (a : Option ℕ) (t : Bool) (at : ℕ) (rest : Option ℕ) → or_else (or_else a (cond t (Some at) None)) rest ≡ or_else a (cond t (Some at) rest)

@@ -17,7 +17,7 @@ use Rattle.mt_graph.specs.declared.Graph.{Graph}
 use Rattle.mt_click.specs.Connections.{is_created, item_from, item_created, left_at, reached_at, source_of, target_of, connection_between, connection_of, connections_from, connections_in}
 use Rattle.mt_click.specs.Wires.{Leads, stays, follows, IsPath, wire_of}
 use Rattle.mt_click.specs.Sound.{AreWithin}
-use Rattle.mt_click.proofs.PathsFound.{first_in, later_in, cases_in, none_in}
+use Rattle.mt_lists.proofs.Members.{first_in, later_in, cases_in, none_in}
 use Rattle.mt_click.proofs.AtMost512.{IsThere, few, few_found}
 use Rattle.mt_click.specs.Building.{built_in, IsWalked}
 

@@ -7,11 +7,10 @@ ghost use Rattle.mt_click.specs.Graphs.{Parses, IsOnly, Refuses};
 ghost use Rattle.mt_click.specs.Sound.{AreWithin, AreNamesApart, AreArgumentsFew};
 
 use crate::action::Built;
-use crate::walk::built_of;
-use crate::wires::wires_of;
 use crate::connections::connections_of;
 use crate::resolving::actions_of;
-use crate::wires::paths_of;
+use crate::walk::built_of;
+use crate::wires::{paths_of, wires_of};
 use mt_graph::Graph;
 use mt_syntax::laws::texts_are_read;
 use mt_syntax::{ClickFault, ClickWhy, ReadError, fault_in, read};
@@ -27,6 +26,7 @@ fn expanded(alloc: Global, text: &[u8]) -> Result<Built, ReadError>
     built_of(alloc, text, &actions)
 }
 
+// The graph of a text, or its fault by the byte at which it stands.
 fn built(alloc: Global, text: &[u8]) -> Result<Graph, ReadError>
     requires { length text.now ≤ 1048576 }
     ensures { Walks text.now result }

@@ -47,6 +47,7 @@ pub struct ItemTable<'a> {
     pub items: IndexMap<(usize, usize), CreatedItem>,
 }
 
+// All items under their enclosing use and byte. No two have the same key.
 fn item_table_of<'a>(alloc: Global, created: &'a [Created]) -> Result<ItemTable<'a>, AllocError>
     ensures created { IfOk result (λ p. p.created.now ≡ created.now) }
     ensures table { IfOk result (λ p. IsItemTable p) }
@@ -59,6 +60,7 @@ fn item_table_of<'a>(alloc: Global, created: &'a [Created]) -> Result<ItemTable<
     Ok(ItemTable { created, items })
 }
 
+// What is created in a use at a byte.
 fn item(table: &ItemTable<'_>, enclosing: usize, offset: usize) -> Option<CreatedItem>
     requires { IsItemTable table.now }
     ensures { result ≡ item_created table.now.created.now enclosing offset }
@@ -69,6 +71,7 @@ fn item(table: &ItemTable<'_>, enclosing: usize, offset: usize) -> Option<Create
     }
 }
 
+// The port at which a connection leaves an item.
 fn left(port: u32, item: Option<CreatedItem>) -> Option<Port>
     ensures { result ≡ left_at port item }
 {
@@ -79,6 +82,7 @@ fn left(port: u32, item: Option<CreatedItem>) -> Option<Port>
     }
 }
 
+// The port at which a connection comes to an item.
 fn reached(port: u32, item: Option<CreatedItem>) -> Option<Port>
     ensures { result ≡ reached_at port item }
 {
@@ -89,6 +93,7 @@ fn reached(port: u32, item: Option<CreatedItem>) -> Option<Port>
     }
 }
 
+// The port that a connection leaves: in a body `input` is the input of the enclosing use.
 #[tactic(auto, unfolding(crate::specs::Connections::source_of))]
 fn source(table: &ItemTable<'_>, enclosing: usize, side: Side) -> Option<Port>
     requires { IsItemTable table.now }
@@ -100,6 +105,7 @@ fn source(table: &ItemTable<'_>, enclosing: usize, side: Side) -> Option<Port>
     }
 }
 
+// The port that a connection comes to: in a body `output` is the output of the enclosing use.
 #[tactic(auto, unfolding(crate::specs::Connections::target_of))]
 fn target(table: &ItemTable<'_>, enclosing: usize, side: Side) -> Option<Port>
     requires { IsItemTable table.now }
@@ -111,6 +117,7 @@ fn target(table: &ItemTable<'_>, enclosing: usize, side: Side) -> Option<Port>
     }
 }
 
+// Adds a connection where both its ports are there.
 fn push_connection_between(
     connections: &mut Vec<Connection>,
     arrow: usize,
@@ -125,8 +132,13 @@ fn push_connection_between(
     Ok(())
 }
 
+// Adds a connection of a use.
 #[tactic(auto, unfolding(crate::specs::Connections::connection_of))]
-fn push_connection(connections: &mut Vec<Connection>, table: &ItemTable<'_>, connected: Connected) -> Result<(), AllocError>
+fn push_connection(
+    connections: &mut Vec<Connection>,
+    table: &ItemTable<'_>,
+    connected: Connected,
+) -> Result<(), AllocError>
     requires { IsItemTable table.now }
     ensures { OnOk result (connections.new.items ≡ connections.old.items ++ connection_of table.now.created.now connected) }
 {
@@ -135,8 +147,13 @@ fn push_connection(connections: &mut Vec<Connection>, table: &ItemTable<'_>, con
     push_connection_between(connections, connected.arrow, from, to)
 }
 
+// Connection after connection, in the order of the walk.
 #[tactic(auto, unfolding(crate::specs::Connections::connections_from))]
-fn connections_at(alloc: Global, table: &ItemTable<'_>, all: &[Connected]) -> Result<Vec<Connection>, AllocError>
+fn connections_at(
+    alloc: Global,
+    table: &ItemTable<'_>,
+    all: &[Connected],
+) -> Result<Vec<Connection>, AllocError>
     requires { IsItemTable table.now }
     ensures { IfOk result (λ v. v.items ≡ connections_from table.now.created.now all.now) }
 {

@@ -20,8 +20,4 @@ pub use mt_syntax::{ClickFault, ClickWhy};
 pub use mt_text::{Text, Texts};
 
 #[cfg(test)]
-mod chains;
-#[cfg(test)]
-mod samples;
-#[cfg(test)]
 mod tests;

@@ -4,11 +4,11 @@ ghost use Rattle.mt_click.specs.Scopes.{scope_number, outside};
 ghost use Rattle.mt_click.specs.Names.{entry, class_at, classes_in, class_of, waiting_behind, declared_in, declared_at, names_from, number_of, is_followed, port_at, input_at, output_at, ports_at, ports_from};
 ghost use Rattle.mt_click.specs.Tables.{IsTable};
 
-use crate::symbols::{Scope, number_of, scope_behind};
-use crate::symbols::{Entry, Table};
+use crate::symbols::{Entry, Scope, Table, number_of, scope_behind};
 use mt_syntax::{Endpoint, Item, Phrase, PortNumber, Word, word_bytes};
 use std::alloc::{AllocError, Global};
 
+// The entry of a compound class, where a phrase declares one. Classes have no scope of their own.
 fn push_class(entries: &mut Vec<Entry>, phrase: Phrase) -> Result<(), AllocError>
     ensures { OnOk result (entries.new.items ≡ entries.old.items ++ class_at phrase) }
 {
@@ -74,6 +74,7 @@ pub fn wait(waiting: &mut Vec<Word>, phrase: Phrase) -> Result<(), AllocError>
     }
 }
 
+// An entry for each name before one `::`.
 fn push_group(
     entries: &mut Vec<Entry>,
     scope: Scope,
@@ -97,6 +98,7 @@ fn push_group(
     Ok(())
 }
 
+// The entry of NAME "::" use as an endpoint.
 #[tactic(auto, unfolding(crate::specs::Names::declared_in))]
 fn push_declared(
     entries: &mut Vec<Entry>,
@@ -123,6 +125,7 @@ fn push_declared(
     }
 }
 
+// The entries of the names that a phrase declares.
 #[tactic(auto, unfolding(crate::specs::Names::declared_at))]
 fn push_names(
     entries: &mut Vec<Entry>,
@@ -192,6 +195,7 @@ pub fn is_followed(phrases: &[Phrase]) -> bool
     }
 }
 
+// The entry of a port that a body names, where an endpoint is `input` or `output` alone.
 #[tactic(auto, unfolding(crate::specs::Names::port_at))]
 fn push_port(
     entries: &mut Vec<Entry>,
@@ -219,6 +223,7 @@ fn push_port(
     }
 }
 
+// `input [k]` with a `->` behind it.
 #[tactic(auto, unfolding(crate::specs::Names::input_at))]
 fn push_input(
     entries: &mut Vec<Entry>,
@@ -236,6 +241,7 @@ fn push_input(
     }
 }
 
+// `[k] output` with a `->` before it.
 #[tactic(auto, unfolding(crate::specs::Names::output_at))]
 fn push_output(
     entries: &mut Vec<Entry>,
@@ -248,6 +254,7 @@ fn push_output(
     push_port(entries, text, scope, b"output", end.input, end.item)
 }
 
+// The entries of the ports that a phrase of a body names.
 #[tactic(auto, unfolding(crate::specs::Names::ports_at))]
 fn push_ports(
     entries: &mut Vec<Entry>,

@@ -8,8 +8,7 @@ ghost use Rattle.mt_click.specs.Elements.{arguments_in, scope_text, own_name, el
 ghost use Rattle.mt_click.specs.Walk.{unknown_offset, known_names, is_parameter_action, body_of, parameters, counted, element_moved, roomed, entered, moved};
 ghost use Rattle.mt_click.specs.Stacks.{bodies, numbers, top_bindings, top_enclosing, context_of, state};
 
-use crate::action::{Built, Connected, Created, CreatedItem};
-use crate::action::{Action, Side};
+use crate::action::{Action, Built, Connected, Created, CreatedItem, Side};
 use crate::resolving::offset_of_own;
 use mt_graph::Element;
 use mt_syntax::{
@@ -83,6 +82,7 @@ fn offset_unknown(text: &[u8], arguments: Option<Word>, number: usize) -> usize
     }
 }
 
+// Whether each `$` name of an argument text is a parameter of the enclosing compound class.
 #[tactic(auto, unfolding(crate::specs::Walk::known_names))]
 fn check_names(alloc: Global, text: &[u8], bindings: &[Binding], used: Use) -> Result<(), ReadError>
     requires { length text.now ≤ 1048576 }
@@ -103,7 +103,11 @@ fn check_names(alloc: Global, text: &[u8], bindings: &[Binding], used: Use) -> R
 }
 
 // The numbers of the uses enclosing an element, each with its `/`.
-fn push_numbers(alloc: Global, name: &mut Vec<u8>, activations: &[Activation]) -> Result<(), AllocError>
+fn push_numbers(
+    alloc: Global,
+    name: &mut Vec<u8>,
+    activations: &[Activation],
+) -> Result<(), AllocError>
     ensures { OnOk result (name.new.items ≡ name.old.items ++ scope_text (numbers activations.now)) }
 {
     let mut rest = activations;
@@ -116,6 +120,7 @@ fn push_numbers(alloc: Global, name: &mut Vec<u8>, activations: &[Activation]) -
     Ok(())
 }
 
+// An element's own name, where it has one.
 fn push_own(name: &mut Vec<u8>, text: &[u8], own: Option<Word>) -> Result<(), AllocError>
     ensures { OnOk result (name.new.items ≡ name.old.items ++ own_name text.now own) }
 {
@@ -125,6 +130,7 @@ fn push_own(name: &mut Vec<u8>, text: &[u8], own: Option<Word>) -> Result<(), Al
     }
 }
 
+// The element of a use, in the scope of the enclosing uses.
 #[tactic(auto, unfolding(crate::specs::Elements::element_of))]
 fn element(
     alloc: Global,
@@ -195,6 +201,7 @@ pub fn body_from<'a>(input: &WalkInput<'a>, class: usize) -> &'a [Action]
     &input.actions[body_index(input, class)..]
 }
 
+// How many parameters stand in front of a body.
 fn parameter_count(actions: &[Action]) -> usize
     ensures { result ≡ prefix_len is_parameter_action actions.now }
 {
@@ -204,6 +211,7 @@ fn parameter_count(actions: &[Action]) -> usize
         .count()
 }
 
+// Whether a use has as many arguments as its compound class has parameters.
 #[tactic(auto, unfolding(crate::specs::Walk::counted))]
 fn count(
     alloc: Global,
@@ -225,6 +233,7 @@ fn count(
     }
 }
 
+// Creates an element, where there is room for it.
 #[tactic(auto, unfolding(crate::specs::Walk::element_moved))]
 fn push_element(
     alloc: Global,
@@ -269,6 +278,7 @@ fn check_room(built: &Built, number: usize, used: Use) -> Result<Option<PendingU
     Ok(None)
 }
 
+// Creates the use of a compound class, of which the body is walked next.
 #[tactic(auto, unfolding(crate::specs::Walk::entered))]
 fn enter(
     alloc: Global,
@@ -299,6 +309,7 @@ fn enter(
     }))
 }
 
+// Adds a connection of the enclosing use.
 fn connect(
     activations: &[Activation],
     arrow: usize,

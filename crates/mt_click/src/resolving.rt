@@ -5,13 +5,13 @@ ghost use Rattle.mt_click.specs.Tables.{AreTables, names};
 ghost use Rattle.mt_click.specs.Elements.{own_offset};
 ghost use Rattle.mt_click.specs.Actions.{naming, using, counting_of, counting, making_of, making, connecting, reaching, written, first_offset, left_out, leaving_out, unnamed, named, item_actions, whole_endpoint, endpoint_actions, rooming, group_actions, class_actions, phrase_actions, actions_from, actions_in};
 
-use crate::symbols::{
-    Symbols, class_of_word, has_port, item_class, symbols_in, makes_new, redeclares, uses_itself,
-};
 use crate::action::{Action, Side};
 use crate::names::{is_followed, wait};
-use crate::symbols::{Scope, scope_behind};
 use crate::sides::{side_of_phrase, sink_of};
+use crate::symbols::{
+    Scope, Symbols, class_of_word, has_port, item_class, makes_new, redeclares, scope_behind,
+    symbols_in, uses_itself,
+};
 use mt_syntax::{ClickWhy, Endpoint, Fault, Item, Phrase, PortNumber, Use, Word};
 use std::alloc::{AllocError, Global};
 
@@ -25,6 +25,7 @@ struct Visited {
     followed: bool,
 }
 
+// A name is declared: a fault where its scope has it before.
 #[tactic(auto, unfolding(crate::specs::Actions::naming))]
 fn push_naming(
     out: &mut Vec<Action>,
@@ -45,6 +46,7 @@ fn push_naming(
     Ok(())
 }
 
+// A class is used: a fault where it is the compound class that this body is of.
 #[tactic(auto, unfolding(crate::specs::Actions::using))]
 fn push_using(
     out: &mut Vec<Action>,
@@ -63,6 +65,7 @@ fn push_using(
     Ok(())
 }
 
+// The arguments of a use of a compound class are counted.
 #[tactic(auto, unfolding(crate::specs::Actions::counting))]
 fn push_counting(
     out: &mut Vec<Action>,
@@ -92,6 +95,7 @@ pub fn offset_of_own(own: Option<Word>, used: Use) -> usize
     }
 }
 
+// A use creates an element, or the use of a compound class.
 fn created_action(name: Option<Word>, used: Use, class: Option<usize>) -> Action
     ensures { result ≡ making_of name used class }
 {
@@ -101,6 +105,7 @@ fn created_action(name: Option<Word>, used: Use, class: Option<usize>) -> Action
     }
 }
 
+// What a use creates, under the name where it has one.
 #[tactic(auto, unfolding(crate::specs::Actions::making))]
 fn push_making(
     out: &mut Vec<Action>,
@@ -116,6 +121,7 @@ fn push_making(
     Ok(())
 }
 
+// A connection comes to a port, or leaves one: a fault where the body of the compound class does not name it.
 #[tactic(auto, unfolding(crate::specs::Actions::reaching))]
 fn push_reaching(
     out: &mut Vec<Action>,
@@ -142,6 +148,7 @@ fn push_reaching(
     }
 }
 
+// The same for a port that is written out.
 #[tactic(auto, unfolding(crate::specs::Actions::written))]
 fn push_written(
     out: &mut Vec<Action>,
@@ -159,6 +166,7 @@ fn push_written(
     }
 }
 
+// The byte of the first word of an item.
 fn offset_of_item(item: Item) -> usize
     ensures { result ≡ first_offset item }
 {
@@ -169,6 +177,7 @@ fn offset_of_item(item: Item) -> usize
     }
 }
 
+// The same for port 0 that is left out, where a `->` stands on that side.
 #[tactic(auto, unfolding(crate::specs::Actions::left_out))]
 fn push_left_out(
     out: &mut Vec<Action>,
@@ -189,13 +198,26 @@ fn push_left_out(
     }
 }
 
+// The ports of an endpoint that are left out.
 #[tactic(auto, unfolding(crate::specs::Actions::leaving_out))]
-fn push_leaving_out(out: &mut Vec<Action>, symbols: &Symbols<'_>, visited: Visited) -> Result<(), AllocError>
+fn push_leaving_out(
+    out: &mut Vec<Action>,
+    symbols: &Symbols<'_>,
+    visited: Visited,
+) -> Result<(), AllocError>
     requires { AreTables symbols.now }
     ensures { OnOk result (out.new.items ≡ out.old.items ++ leaving_out (names symbols.now) visited.class visited.next visited.followed visited.end) }
 {
     let at = offset_of_item(visited.end.item);
-    push_left_out(out, symbols, visited.class, b"input", visited.next, visited.end.input, at)?;
+    push_left_out(
+        out,
+        symbols,
+        visited.class,
+        b"input",
+        visited.next,
+        visited.end.input,
+        at,
+    )?;
     push_left_out(
         out,
         symbols,
@@ -207,6 +229,7 @@ fn push_leaving_out(out: &mut Vec<Action>, symbols: &Symbols<'_>, visited: Visit
     )
 }
 
+// An endpoint that is a class: an unnamed element or use.
 #[tactic(auto, unfolding(crate::specs::Actions::unnamed))]
 fn push_unnamed(
     out: &mut Vec<Action>,
@@ -224,6 +247,7 @@ fn push_unnamed(
     push_making(out, symbols, scope, None, used)
 }
 
+// An endpoint that declares a name.
 #[tactic(auto, unfolding(crate::specs::Actions::named))]
 fn push_named(
     out: &mut Vec<Action>,
@@ -244,6 +268,7 @@ fn push_named(
     push_making(out, symbols, scope, Some(name), used)
 }
 
+// What an endpoint does between its ports.
 #[tactic(auto, unfolding(crate::specs::Actions::item_actions))]
 fn push_item(
     out: &mut Vec<Action>,
@@ -272,6 +297,7 @@ fn push_item(
     }
 }
 
+// What an endpoint does: its input port, its item, its output port.
 #[tactic(auto, unfolding(crate::specs::Actions::whole_endpoint))]
 fn push_whole_endpoint(
     out: &mut Vec<Action>,
@@ -288,6 +314,7 @@ fn push_whole_endpoint(
     push_written(out, symbols, visited.class, b"output", visited.end.output)
 }
 
+// The same, with the compound class of the item looked up once.
 #[tactic(auto, unfolding(crate::specs::Actions::endpoint_actions))]
 fn push_endpoint(
     out: &mut Vec<Action>,
@@ -310,6 +337,7 @@ fn push_endpoint(
     push_whole_endpoint(out, symbols, scope, visited)
 }
 
+// The elements of one `::` have room together, or none has.
 #[tactic(auto, unfolding(crate::specs::Actions::rooming))]
 fn push_rooming(
     out: &mut Vec<Action>,
@@ -327,6 +355,7 @@ fn push_rooming(
     Ok(())
 }
 
+// What the names before one `::` create, in their order.
 #[tactic(auto, unfolding(crate::specs::Actions::group_actions))]
 fn push_group(
     out: &mut Vec<Action>,
@@ -347,6 +376,7 @@ fn push_group(
     Ok(())
 }
 
+// The declaration of a compound class: a fault where there is one of its name before.
 #[tactic(auto, unfolding(crate::specs::Actions::class_actions))]
 fn push_class(
     out: &mut Vec<Action>,
@@ -367,6 +397,7 @@ fn push_class(
     Ok(())
 }
 
+// A connection, where both its ends are there.
 fn push_connecting(
     out: &mut Vec<Action>,
     arrow: usize,
@@ -381,6 +412,7 @@ fn push_connecting(
     Ok(())
 }
 
+// The actions of a phrase.
 #[tactic(auto, unfolding(crate::specs::Actions::phrase_actions))]
 fn push_phrase(
     out: &mut Vec<Action>,
@@ -419,8 +451,13 @@ fn push_phrase(
     }
 }
 
+// Phrase after phrase, with the scope, the names that wait for `::` and the end before a `->`.
 #[tactic(auto, unfolding(crate::specs::Actions::actions_from))]
-fn resolved(alloc: Global, symbols: &Symbols<'_>, phrases: &[Phrase]) -> Result<Vec<Action>, AllocError>
+fn resolved(
+    alloc: Global,
+    symbols: &Symbols<'_>,
+    phrases: &[Phrase],
+) -> Result<Vec<Action>, AllocError>
     requires { AreTables symbols.now }
     ensures { IfOk result (λ v. v.items ≡ actions_from (names symbols.now) outside [] None phrases.now) }
 {

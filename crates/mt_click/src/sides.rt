@@ -3,10 +3,9 @@ ghost use Rattle.std.specs.Prelude.{◌≡◌, ◌^◌, ◌<◌};
 ghost use Rattle.mt_click.specs.Tables.{AreTables, names};
 ghost use Rattle.mt_click.specs.Actions.{declared_index, offset_at, name_side, item_side, source, sink, side_behind};
 
-use crate::symbols::{Symbols, is_pseudo_name, index_declared};
 use crate::action::Side;
 use crate::names::port_number;
-use crate::symbols::Scope;
+use crate::symbols::{Scope, Symbols, index_declared, is_pseudo_name};
 use mt_syntax::{Endpoint, Item, Phrase, Word, word_bytes};
 
 // Where what is declared at a place among the names is used.
@@ -22,6 +21,7 @@ fn offset_created(symbols: &Symbols<'_>, at: usize, index: Option<usize>) -> usi
     }
 }
 
+// A name alone as the end of a connection; `border` is the pseudo element that may stand there in a body.
 #[tactic(auto, unfolding(crate::specs::Actions::name_side))]
 fn side_of_name(
     symbols: &Symbols<'_>,
@@ -47,6 +47,7 @@ fn side_of_name(
     }
 }
 
+// An item as the end of a connection.
 #[tactic(auto, unfolding(crate::specs::Actions::item_side))]
 fn side_of_item(
     symbols: &Symbols<'_>,
@@ -66,6 +67,7 @@ fn side_of_item(
     }
 }
 
+// What a connection leaves that begins at an endpoint.
 #[tactic(auto, unfolding(crate::specs::Actions::source))]
 fn source_of(symbols: &Symbols<'_>, scope: Scope, end: Endpoint) -> Option<Side>
     requires tables { AreTables symbols.now }

@@ -7,7 +7,7 @@ ghost use Rattle.mt_click.specs.Actions.{is_pseudo, declared_index, class_at, cl
 
 use crate::names::{class_in, classes_of, names_of, ports_of};
 use indexmap::IndexMap;
-use mt_syntax::{Phrase, Word, word_bytes, Item};
+use mt_syntax::{Item, Phrase, Word, word_bytes};
 use std::alloc::{AllocError, Global};
 
 /// Where a phrase stands: whether it is in the body of a class, and how many classes end before it.
@@ -41,7 +41,11 @@ pub fn number_of(scope: Scope) -> usize
     requires { scope.class_count < 2 ^ 63 }
     ensures { result ≡ scope_number scope }
 {
-    if scope.inside { scope.class_count + 1 } else { 0 }
+    if scope.inside {
+        scope.class_count + 1
+    } else {
+        0
+    }
 }
 
 /// What is declared under a word, in the scope of a number: a class, an element, or a port of a class
@@ -185,6 +189,7 @@ pub fn makes_new(symbols: &Symbols<'_>, scope: Scope, word: Word) -> bool
     !is_pseudo_name(scope, name) && index_declared(symbols, scope, name).is_none()
 }
 
+// The compound class of what a name alone stands for, where that is a use of one.
 #[tactic(auto, unfolding(crate::specs::Actions::class_of_name))]
 fn name_class(symbols: &Symbols<'_>, scope: Scope, word: Word) -> Option<usize>
     requires tables { AreTables symbols.now }
@@ -215,6 +220,7 @@ pub fn item_class(symbols: &Symbols<'_>, scope: Scope, item: Item) -> Option<usi
     }
 }
 
+// Whether the entry at an index is declared before a byte.
 fn stands_before(symbols: &Symbols<'_>, at: usize, index: Option<usize>) -> bool
     ensures { result ≡ is_before (names symbols.now).names at index }
 {

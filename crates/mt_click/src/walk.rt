@@ -6,9 +6,8 @@ ghost use Rattle.mt_click.specs.Walk.{bound, body_of, bodies_in, enter, entering
 ghost use Rattle.mt_click.specs.Stacks.{bodies, state};
 ghost use Rattle.mt_click.specs.Runs.{is_done, run_all, cost_all, use_cost, used, moved_on, Continues};
 
-use crate::action::Built;
-use crate::action::Action;
-use crate::perform::{PendingUse, Activation, WalkInput, body_from, body_index, perform};
+use crate::action::{Action, Built};
+use crate::perform::{Activation, PendingUse, WalkInput, body_from, body_index, perform};
 use mt_syntax::{Binding, ReadError, word_bytes};
 use mt_text::Text;
 use std::alloc::{AllocError, Global};
@@ -26,12 +25,14 @@ fn class_indices(alloc: Global, actions: &[Action]) -> Result<Vec<usize>, AllocE
     Ok(indices)
 }
 
+// A parameter without its `$`.
 fn behind_first(bytes: &[u8]) -> &[u8]
     ensures { result.now ≡ drop 1 bytes.now }
 {
     if bytes.is_empty() { bytes } else { &bytes[1..] }
 }
 
+// A parameter, given with its `$`, with its argument.
 fn binding_of(alloc: Global, name: &[u8], argument: &[u8]) -> Result<Binding, AllocError>
     ensures name { IfOk result (λ b. b.name ≡ drop 1 name.now) }
     ensures argument { IfOk result (λ b. b.argument ≡ argument.now) }
@@ -68,7 +69,11 @@ fn bindings_of(
 }
 
 // The use of a class as it begins.
-fn activation_of(alloc: Global, input: &WalkInput<'_>, pending: PendingUse) -> Result<Activation, AllocError>
+fn activation_of(
+    alloc: Global,
+    input: &WalkInput<'_>,
+    pending: PendingUse,
+) -> Result<Activation, AllocError>
     ensures at { IfOk result (λ f. drop f.at input.now.actions.now ≡ body_of (bodies input.now) pending.class) }
     ensures class_count { IfOk result (λ f. f.class_count ≡ pending.class) }
     ensures number { IfOk result (λ f. f.number ≡ pending.number) }
@@ -115,6 +120,7 @@ fn push_use(
     }
 }
 
+// Whether a body ends at an index of the actions.
 fn is_end(input: &WalkInput<'_>, at: usize) -> bool
     ensures { result ≡ is_done (drop at input.now.actions.now) }
 {

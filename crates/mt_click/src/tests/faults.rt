@@ -1,6 +1,75 @@
-//! Texts of every kind of fault, and texts with classes, with what they are.
+//! Texts with their first faults: those that the walk meets, and samples of every kind.
 use crate::tests::{described, wired};
 use std::test::Fail;
+
+#[test]
+fn faults_of_the_walk_stand_at_their_places(rt: HostRuntime) -> Result<(), Fail> {
+    let rows: [(&str, &str); 34] = [
+        ("a :: A; a :: B", "Redeclared 1 9"),
+        ("a, a :: A", "Redeclared 1 4"),
+        (
+            "a :: A; elementclass E { a :: A;\n a :: B }",
+            "Redeclared 2 2",
+        ),
+        ("elementclass E { } elementclass E { }", "Redeclared 1 33"),
+        ("elementclass E { input :: A }", "Redeclared 1 18"),
+        ("elementclass E { x, output :: A }", "Redeclared 1 21"),
+        ("a :: A($x); a :: B", "UnknownName 1 8"),
+        ("a, b, a :: A($x)", "Redeclared 1 7"),
+        ("elementclass E { E }", "Recursive 1 18"),
+        ("elementclass E { x :: E }", "Recursive 1 23"),
+        ("elementclass E { A -> E(1) }", "Recursive 1 23"),
+        ("elementclass E { a, b :: E; a :: B }", "Recursive 1 26"),
+        ("elementclass E { $p | } E", "Arity 1 25"),
+        ("elementclass E { } E(1)", "Arity 1 20"),
+        ("elementclass E { $p | } x :: E(1, 2)", "Arity 1 30"),
+        (
+            "elementclass E { $p | } elementclass F { E } F",
+            "Arity 1 42",
+        ),
+        (
+            "elementclass E { $p, $q | A } elementclass F { $p | E($p) } F(1)",
+            "Arity 1 53",
+        ),
+        ("elementclass E { $p | } A -> E", "Arity 1 30"),
+        ("elementclass E { $p | } A -> x :: E", "NoPort 1 30"),
+        ("A($x)", "UnknownName 1 3"),
+        ("A(1, $y, 2)", "UnknownName 1 6"),
+        ("A(/* $x */ $y)", "UnknownName 1 12"),
+        ("elementclass E { $p | A($p $q) } E(1)", "UnknownName 1 28"),
+        ("elementclass E { $p | A } E($p)", "UnknownName 1 29"),
+        (
+            "elementclass E { input -> A -> output } B -> [1] E",
+            "NoPort 1 46",
+        ),
+        ("elementclass E { } B -> E", "NoPort 1 25"),
+        ("elementclass E { input -> A } E -> B", "NoPort 1 31"),
+        ("elementclass E { input -> A } E [2] -> B", "NoPort 1 33"),
+        (
+            "e -> A; elementclass E { input -> [1] output } e :: E",
+            "NoPort 1 1",
+        ),
+        (
+            "a :: A; elementclass E { } B -> [0] b :: E; a :: C",
+            "NoPort 1 33",
+        ),
+        (
+            "elementclass E { A -> input; output -> A } B -> E",
+            "NoPort 1 49",
+        ),
+        (
+            "elementclass E { } elementclass F { A -> E } F",
+            "NoPort 1 42",
+        ),
+        ("a :: A; a :: B; ?", "Lex 1 17"),
+        ("a :: A; a :: B ->", "Syntax 1 18"),
+    ];
+    for row in rows {
+        let text = described(rt.alloc(), row.0.as_bytes(), b' ')?;
+        assert_eq!(rt; text.as_slice(), row.1.as_bytes(), "{}", row.0);
+    }
+    Ok(())
+}
 
 #[test]
 fn samples_have_their_faults(rt: HostRuntime) -> Result<(), Fail> {
@@ -134,102 +203,6 @@ y :: Null -> Null -> w :: B(0x0800, q  r);",
     for row in rows {
         let fault = wired(rt.alloc(), row.0.as_bytes())?;
         assert_eq!(rt; fault.as_slice(), row.1.as_bytes(), "{}", row.0);
-    }
-    Ok(())
-}
-
-#[test]
-fn samples_become_their_graphs(rt: HostRuntime) -> Result<(), Fail> {
-    let rows: [(&str, &str, &str); 12] = [
-        (
-            "elementclass D { input -> output; input [2] -> [1] output; };
-Null;
-Foo( );",
-            "Null()@2
-Foo()@3",
-            "2",
-        ),
-        (
-            "elementclass C { input -> A -> output };
-FromDevice(a);
-ToDevice(b)[1] -> x;",
-            "FromDevice(a)@2
-ToDevice(b)@3
-x()@3",
-            "3 1.1>2.0@3",
-        ),
-        (
-            "elementclass D { input -> output; input [2] -> [1] output; };A -> D;C -> [1] E;",
-            "A()@1
-C()@1
-E()@1",
-            "3 1.0>2.1@1",
-        ),
-        (
-            "elementclass C { input -> A -> output }; w :: B(0x0800, q  r) -> [1] z :: A -> [1] Foo(a(b, c), d); FromDevice(a);",
-            "B(0x0800|q r)w@1
-A()z@1
-Foo(a(b, c)|d)@1
-FromDevice(a)@1",
-            "4 0.0>1.1@1 1.0>2.1@1",
-        ),
-        (
-            "elementclass B { $x, $y | input -> Paint($x) -> [1] output; input [1] -> EtherEncap($y, $x) -> output };
-y :: Null;",
-            "Null()y@2",
-            "1",
-        ),
-        (
-            "elementclass B { $x, $y | input -> Paint($x) -> [1] output; input [1] -> EtherEncap($y, $x) -> output };
-
-A -> A; output;",
-            "A()@3
-A()@3
-output()@3",
-            "3 0.0>1.0@3",
-        ),
-        (
-            "elementclass D { input -> output; input [2] -> [1] output; };
-Foo(a(b, c), d);
-B(1, 2);
-_a@1 :: Null -> Queue(5) -> Null;",
-            "Foo(a(b, c)|d)@2
-B(1|2)@3
-Null()_a@1@4
-Queue(5)@4
-Null()@4",
-            "5 2.0>3.0@4 3.0>4.0@4",
-        ),
-        (
-            "elementclass E { a, b :: Null; input -> a -> b -> output; a2 :: A; input[1] -> a2 -> Discard };B(1, 2) -> Foo(a(b, c), d);",
-            "B(1|2)@1
-Foo(a(b, c)|d)@1",
-            "2 0.0>1.0@1",
-        ),
-        ("el", "el()@1", "1"),
-        ("elementcl", "elementcl()@1", "1"),
-        (
-            "C->_a@1 :: Null",
-            "C()@1
-Null()_a@1@1",
-            "2 0.0>1.0@1",
-        ),
-        (
-            "D -> C;
-Null -> D -> output;",
-            "D()@1
-C()@1
-Null()@2
-D()@2
-output()@2",
-            "5 0.0>1.0@1 2.0>3.0@2 3.0>4.0@2",
-        ),
-    ];
-    for row in rows {
-        let elements = described(rt.alloc(), row.0.as_bytes(), b'\n')?;
-        assert_eq!(rt; elements.as_slice(), row.1.as_bytes(), "{}", row.0);
-        let wires = wired(rt.alloc(), row.0.as_bytes())?;
-        assert_eq!(rt; wires.as_slice(), row.2.as_bytes(), "{}", row.0);
     }
     Ok(())
 }
