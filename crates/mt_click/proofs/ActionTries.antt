@@ -1,4 +1,4 @@
--- What a action makes of a state where it is at no fault.
+-- What an action makes of a state where it is at no fault.
 use Rattle.std.proofs.Common.{◌≡◌, ℕ, ◌+◌, List, length, nat_le, nat_lt, Option, Some, None, Result, Ok, Err, Bool, true, false, cond, refl, ap, ◌∙◌}
 use Rattle.std.specs.Prelude.{◌==◌, not, is_some}
 use Rattle.mt_syntax.specs.declared.fault.ClickWhy.TheVariants as whys

@@ -1,4 +1,4 @@
--- No two created_items are made at one place in one use, and each act makes a item at its place.
+-- No two items are made at one place in one use, and each act makes a item at its place.
 use Rattle.std.proofs.Common.{◌≡◌, ℕ, ◌+◌, ◌<◌, ◌≤◌, ◌⊎◌, inl, inr, List, [], ◌∷◌, ◌++◌, length, Contains, refl, sym, ap, ◌∙◌, subst, arith, append_assoc, length-append}
 use Rattle.std.specs.List.{AllByRecursion}
 use Rattle.std.proofs.lemmas.List.{append-nil}
@@ -23,7 +23,7 @@ IsCreatedAt created enclosing n = (m : Created) × Contains created m × (m.encl
 abbrev Formed : ℕ → ℕ → ℕ → List ℕ → Created → Type 0
 Formed enclosing least most ns m = ((m.enclosing ≡ enclosing) × Contains ns m.offset) ⊎ ((least < m.enclosing) × (m.enclosing ≤ most))
 
--- created_items that are made in a use behind those that are there
+-- items that are made in a use behind those that are there
 pub record Gained (enclosing least : ℕ) (ns : List ℕ) (old now : List Created) : Type 0 where
   pub new : List Created
   pub all : now ≡ old ++ new

@@ -38,3 +38,4 @@ pub mod SidesCreated
 pub mod CreatedOnce
 pub mod ConnectionsWhole
 pub mod GraphOfText
+mod Rows

@@ -1,4 +1,4 @@
--- PathsFound in their order: no other list has the same.
+-- Paths in their order: no other list has the same.
 use Rattle.std.proofs.Common.{◌≡◌, ◌↔◌, ℕ, suc, ◌<◌, ◌⊎◌, inl, inr, List, [], ◌∷◌, map, Result, Ok, refl, sym, ap, ◌∙◌, subst, arith}
 use Rattle.std.specs.List.{Contains, AllPairs}
 use Rattle.mt_click.specs.declared.connections.Path.{Path}

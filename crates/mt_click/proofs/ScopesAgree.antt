@@ -22,7 +22,7 @@ use Rattle.mt_click.proofs.NameEntries.{entry_of, out_at, in_at, Knows, knows_al
 use Rattle.mt_click.proofs.PortEntries.{Reached, ArePorted, ported_front, class_reached}
 use Rattle.mt_click.proofs.NamesAscend.{Rises, first_before}
 
--- A scope and a place see the same: borders, the class enclosing, what a token names as a class and as an
+-- A scope and a place see the same: borders, the enclosing class, what a token names as a class and as an
 -- element, whether a name was declared before, and the ports of what an item stands for.
 pub record Sees (names : Names) (s : Scope) (v : Sight) : Type 0 where
   pub text : names.text ≡ v.text

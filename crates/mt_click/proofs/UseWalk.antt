@@ -222,7 +222,7 @@ room_none : (b : Bool) (xs ys : State) (f : Fault) (e : Option PendingUse) → c
 room_none true xs ys f e h = sym (ap use_of h)
 room_none false xs ys f e h = absurd (let q : false ≡ true = ap is_fine h in cc)
 
--- what walking the use that a action makes costs
+-- what walking the use that an action makes costs
 abbrev action_cost : WalkInput → ℕ → Action → ℕ
 action_cost s class_count (actions.Enter k u offset) = enter_cost (bodies s) class_count k
 action_cost s class_count _ = 0
@@ -318,7 +318,7 @@ cost_use s fs f class_count e lt at same =
 pub cost_no_use : (s : WalkInput) (fs : List Activation) (class_count : ℕ) (e : PendingUse) → class_count ≤ e.class → cost_all s fs ≡ cost_all s fs + use_cost s class_count (Some e)
 cost_no_use s fs class_count e le = omega (arith, cost_beyond (bodies s) class_count e.class le)
 
--- the numbers of the uses enclosing, one after the other
+-- the numbers of the enclosing uses, one after the other
 pub numbers_step : (fs : List Activation) (f : Activation) → 1 ≤ length fs → f ≡ get_or fs 0 f → scope_text (numbers fs) ≡ (decimal f.number ++ 47 ∷ []) ++ scope_text (numbers (take (length fs - 1) (drop 1 fs)))
 numbers_step [] f h e = absurd (omega arith)
 numbers_step (g ∷ gs) f h e =
@@ -328,7 +328,7 @@ numbers_step (g ∷ gs) f h e =
     ∙ ap (λ (x : Activation). (decimal x.number ++ 47 ∷ []) ++ scope_text (numbers gs)) (sym e)
     ∙ ap (λ (x : List Activation). (decimal f.number ++ 47 ∷ []) ++ scope_text (numbers x)) (sym rest)
 
--- a fault of a action is one of the whole
+-- a fault of an action is one of the whole
 pub faulted : (e : ReadError) (a : Result Moved Fault) (rest : Moved → Walked) (old new : Walked) → Fails e a → old ≡ (a >>= rest) → Continues {X = Unit {0}} (Err e) old new
 faulted errors.Memory a rest old new h q = tt
 faulted (errors.Fault f) a rest old new h q = q ∙ ap (λ (x : Result Moved Fault). x >>= rest) h

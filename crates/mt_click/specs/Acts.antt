@@ -10,7 +10,7 @@ use Rattle.mt_syntax.specs.Reading.{word}
 use Rattle.mt_syntax.specs.Grammar.{UseTree, use_of, PortTree, ItemTree, alone, named, made, EndpointTree, StatementTree, connect, declare, InnerTree, sign, plain, ClassTree, OuterTree, outer, class}
 use Rattle.mt_click.specs.Declarations.{spelling, class_under, Declaration, declared_under, declared_body, port_value}
 
--- What a place of the text sees: all that its scope declares, the classes that stand before, and the class
+-- What is in sight at a byte of the text: all that its scope declares, the classes that stand before, and the class
 -- in whose body it is, which is none outside classes.
 pub record Sight : Type 0 where
   pub text : List ℕ
@@ -50,7 +50,7 @@ pub data Act : Type 0 where
   input : ClassTree → ℕ → Act
   -- a connection leaves an output of a use of a class
   output : ClassTree → ℕ → Act
-  -- two ends are followed, by the `->` at a place
+  -- two ends are joined, by the `->` at a byte
   join : ℕ → Side → Side → Act
 
 -- a use makes an element, or else expands its class
@@ -99,7 +99,7 @@ leaving _ _ port = []
 unfoldable pub end_acts : Sight → Bool → Bool → EndpointTree → List Act
 end_acts s before behind e = coming before (item_class s e.item) e.input ++ (item_acts s e.item ++ leaving behind (item_class s e.item) e.output)
 
--- What an end stands for, with a port: what is made at the place of the name's declaration, or at the
+-- What an end stands for, with a port: what is made at the byte of the name's declaration, or at the
 -- class. In a body `input` is the border where a connection begins, `output` where it ends, and neither is
 -- an end elsewhere.
 abbrev pub lone_side : Token → ℕ → Option Declaration → Option Side

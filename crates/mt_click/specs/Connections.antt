@@ -1,4 +1,4 @@
--- Connections as connections between ports of elements and of uses of classes.
+-- Connections between ports of elements and of uses of classes.
 use Rattle.std.specs.Prelude.{◌≡◌, ℕ, List, [], ◌∷◌, ◌++◌, Option, Some, None, Bool, ◌&&◌, nat_eq, Contains, if◌then◌else◌}
 use Rattle.std.specs.List.{AllPairs}
 use Rattle.mt_click.specs.declared.action.Side.{Side}
@@ -12,8 +12,8 @@ use Rattle.mt_click.specs.declared.connections.Port.TheVariants as port_kinds
 use Rattle.mt_click.specs.declared.connections.Connection.{Connection}
 use Rattle.mt_click.specs.Elements.{State}
 
--- What is made in the use of a number at a place of the text. Nothing in a use makes two created_items at one
--- place; the last one would count.
+-- What is created in the use of a number at a byte of the text. Nothing in a use creates two items at one byte;
+-- the last one would count.
 abbrev pub is_created : ℕ → ℕ → Created → Bool
 is_created enclosing offset m = nat_eq m.enclosing enclosing && nat_eq m.offset offset
 
@@ -61,7 +61,7 @@ connections_from created (j ∷ js) = connection_of created j ++ connections_fro
 abbrev pub connections_in : State → List Connection
 connections_in s = connections_from s.created s.connected
 
--- no two created_items are made in one use at one place
+-- no two items are created in one use at one byte
 abbrev pub IsElsewhere : Created → Created → Type 0
 IsElsewhere a b = a.enclosing ≡ b.enclosing → a.offset ≡ b.offset → ⊥
 
@@ -75,7 +75,7 @@ pub record HasEnds (created : List Created) (j : Connected) : Type 0 where
   pub target : Port
   pub comes : target_of created j.enclosing j.to ≡ Some target
 
--- No place of a use has two created_items, and each connection is a connection: none is lost.
+-- No byte of a use has two items, and each connection has both its ports: none is lost.
 pub record IsConnected (s : State) : Type 0 where
   pub once : AreCreatedOnce s.created
   pub ends : (j : Connected) → Contains s.connected j → HasEnds s.created j

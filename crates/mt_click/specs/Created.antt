@@ -7,6 +7,6 @@ use Rattle.mt_click.specs.Connections.{item_created}
 abbrev pub is_item_key : ℕ → ℕ → ℕ × ℕ → Bool
 is_item_key enclosing offset k = nat_eq enclosing k.0 && nat_eq offset k.1
 
--- each item is kept under its use and its place
+-- each item is kept under its use and its byte
 abbrev pub IsItemTable : ItemTable → Type 0
 IsItemTable p = (enclosing offset : ℕ) → get_by (is_item_key enclosing offset) p.items ≡ item_created p.created.now enclosing offset

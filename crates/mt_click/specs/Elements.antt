@@ -25,7 +25,7 @@ abbrev pub own_offset : Option Word → Use → ℕ
 own_offset None u = u.class.from
 own_offset (Some w) u = w.from
 
--- The name of an element: for each use enclosing it the number of that use's first element and `/`, then
+-- The name of an element: for each use that encloses it the number of that use's first element and `/`, then
 -- its own.
 abbrev pub scope_text : List ℕ → List ℕ
 scope_text numbers = flat_map (λ n. decimal n ++ 47 ∷ []) numbers
@@ -42,7 +42,7 @@ element_of text numbers bindings name u = record {
   line = line_of text (own_offset name u);
 }
 
--- Where a walk is: the uses enclosing it, each as the number of its first element, what the parameters
+-- Where a walk is: the uses that enclose it, each as the number of its first element, what the parameters
 -- of the class stand for, and the number of the innermost use, which is 0 outside classes.
 pub record Context : Type 0 where
   pub numbers : List ℕ

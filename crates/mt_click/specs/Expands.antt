@@ -76,7 +76,7 @@ context_inside text p s c u = record {
   enclosing = length s.created + 1;
 }
 
--- Acts at a place, where something is made, build what is made behind them.
+-- Acts in a context, where something is there, build what is there behind them.
 pub data Builds : List ℕ → Context → State → List Act → State → Type 0 where
   done : (text : List ℕ) (p : Context) (s : State) → Builds text p s [] s
   -- an element is made, of which there are at most 512

@@ -20,12 +20,12 @@ entry scope number w class = record { scope = scope; number = number; word = w; 
 abbrev pub is_entry : List ℕ → ℕ → ℕ → List ℕ → Entry → Bool
 is_entry text scope number name e = nat_eq scope e.scope && nat_eq number e.number && bytes_eq name (bytes_of text e.word)
 
--- the place of the first entry that passes a test, where the list begins at a place
+-- the index of the first entry that passes a test, where the list begins at an index
 unfoldable pub first_from : (Entry → Bool) → ℕ → List Entry → Option ℕ
 first_from test at [] = None
 first_from test at (e ∷ es) = if test e then Some at else first_from test (at + 1) es
 
--- the place of the first entry under a name
+-- the index of the first entry under a name
 abbrev pub first_entry : List ℕ → List Entry → ℕ → ℕ → List ℕ → Option ℕ
 first_entry text entries scope number name = first_from (is_entry text scope number name) 0 entries
 

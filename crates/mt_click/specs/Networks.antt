@@ -1,4 +1,4 @@
--- Connections as connections between numbers: the number of a port is its place in a list of ports.
+-- Ports by number: the number of a port is its index in a list of ports.
 use Rattle.std.specs.Prelude.{◌≡◌, ℕ, List, length, slice_get, Some}
 use Rattle.mt_click.specs.declared.connections.Port.{Port}
 use Rattle.mt_click.specs.declared.connections.Connection.{Connection}

@@ -12,7 +12,7 @@ use Rattle.mt_click.specs.Elements.{Context, State, top}
 use Rattle.mt_click.specs.Walk.{Walked, walk, enter, entering, moved, body_of}
 use Rattle.mt_click.specs.Stacks.{bodies, numbers, context_of}
 
--- where the walk is in a use, with the uses enclosing it from the inside out
+-- where the walk is in a use, with the uses that enclose it from the inside out
 abbrev pub context_at : Activation → List Activation → Context
 context_at f outer = record { numbers = numbers (reverse outer) ++ f.number ∷ []; bindings = f.bindings.items; enclosing = f.enclosing }
 
@@ -20,7 +20,7 @@ context_at f outer = record { numbers = numbers (reverse outer) ++ f.number ∷ 
 abbrev pub finish : WalkInput → Activation → List Activation → State → Walked
 finish s f outer es = walk s.text.now (bodies s) (enter s.text.now (bodies s) f.class_count) (context_at f outer) (drop f.at s.actions.now) es
 
--- and over all that are enclosing it
+-- and over all that enclose it
 unfoldable pub run : WalkInput → List Activation → State → Walked
 run s [] es = Ok es
 run s (f ∷ outer) es = finish s f outer es >>= run s outer
@@ -32,7 +32,7 @@ run_all s activations es = run s (reverse activations) es
 abbrev pub used : WalkInput → ℕ → List Activation → Option PendingUse → State → Walked
 used s class_count activations e es = entering (enter s.text.now (bodies s) class_count) (context_of activations) (es, e) >>= run_all s activations
 
--- a action outside classes, and the use that it makes
+-- an action outside classes, and the use that it makes
 abbrev pub moved_on : WalkInput → ℕ → State → Action → Walked
 moved_on s class_count es m = moved s.text.now (bodies s) top es m >>= entering (enter s.text.now (bodies s) class_count) top
 

@@ -11,7 +11,7 @@ use Rattle.mt_click.specs.Elements.{Context, State}
 abbrev pub bodies : WalkInput → List (List Action)
 bodies s = map (λ at. drop at s.actions.now) s.classes.now
 
--- the numbers of the uses enclosing
+-- the numbers of the enclosing uses
 abbrev pub numbers : List Activation → List ℕ
 numbers activations = map (λ f. f.number) activations
 

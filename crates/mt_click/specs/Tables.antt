@@ -11,7 +11,7 @@ use Rattle.mt_click.specs.Names.{Names, first_entry}
 abbrev pub is_key : ℕ → ℕ → List ℕ → ℕ × ℕ × Bor (List ℕ) → Bool
 is_key scope number name k = nat_eq scope k.0 && nat_eq number k.1 && bytes_eq name k.2.now
 
--- a table knows the place of the first entry under each name
+-- a table has the index of the first entry under each name
 abbrev pub IsTable : Table → Type 0
 IsTable t = (scope number : ℕ) (name : List ℕ) → get_by (is_key scope number name) t.indices ≡ first_entry t.text.now t.entries.items scope number name
 

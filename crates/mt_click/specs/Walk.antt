@@ -29,7 +29,7 @@ known_names text bindings u =
       | Some n ↦ Err (wrong whys.UnknownName (unknown_offset u.arguments (inner text u.arguments) n))
     ]
 
--- what is there behind a action, and the use that is walked there
+-- what is there behind an action, and the use that is walked there
 abbrev pub Moved : Type 0
 Moved = State × Option PendingUse
 
@@ -59,7 +59,7 @@ roomed es n u = if nat_le (length es.elements + n) 512 then Ok (es, None) else E
 unfoldable pub entered : List ℕ → Context → State → ℕ → Use → ℕ → Result Moved Fault
 entered text p es k u offset = known_names text p.bindings u >>= λ _. Ok (with_use p es offset, Some (record { class = k; number = length es.elements; enclosing = length es.created + 1; arguments = arguments_in text p.bindings u }))
 
--- A action outside classes, or in the body of a class at a use of it.
+-- An action outside classes, or in the body of a class at a use of it.
 unfoldable pub moved : List ℕ → List (List Action) → Context → State → Action → Result Moved Fault
 moved text bodies p es (actions.MissingPort f) = Err f
 moved text bodies p es (actions.Count k u) = counted text bodies p.bindings k u >>= λ _. Ok (es, None)
@@ -106,7 +106,7 @@ bodies_in [] = []
 bodies_in (actions.Class ∷ ms) = ms ∷ bodies_in ms
 bodies_in (_ ∷ ms) = bodies_in ms
 
--- The walk over the whole: at the declaration of a class only names at fault are visited in its body.
+-- The walk over the whole: at the declaration of a class only names at fault are told in its body.
 -- `class_count` classes begin before.
 unfoldable pub walk_all : List ℕ → List (List Action) → ℕ → Bool → List Action → State → Walked
 walk_all text bodies class_count inside [] es = Ok es

@@ -14,7 +14,7 @@ pub data Leads : List Connection → Port → Port → Type 0 where
   stays : (connections : List Connection) (p : Port) → Leads connections p p
   follows : (connections : List Connection) (p q r : Port) (l : Connection) → Leads connections p q → Contains connections l → l.from ≡ q → l.to ≡ r → Leads connections p r
 
--- A path: its first connection leaves a real output, its last comes to a real input. It has the place of the
+-- A path: its first connection leaves a real output, its last comes to a real input. It has the byte of the
 -- `->` of its first connection.
 pub record IsPath (connections : List Connection) (w : Path) : Type 0 where
   pub first : Connection

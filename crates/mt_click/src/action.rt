@@ -7,44 +7,44 @@ use mt_syntax::{Fault, Use, Word};
 pub enum Side {
     /// The border of the body: `input` where the connection begins, `output` where it ends.
     Border(u32),
-    /// What is used at a place of the text.
+    /// What is created at a byte of the text, and its port.
     Created(usize, u32),
 }
 
-/// What the walk meets: a fault, or what a phrase does. A class stands as its number, from 0 in the order
-/// of declaration.
+/// What the walk comes to: a fault, or what a phrase does. A compound class stands as its number, from 0 in the
+/// order of declaration. Bytes of the text are counted from 0.
 #[derive(Clone, Copy, Debug, PartialEq, Eq)]
 pub enum Action {
-    /// The declaration of a class: up to `Close` stands its body.
+    /// The declaration of a compound class: up to `Close` stands its body.
     Class,
-    /// A parameter of the class, with its `$`.
+    /// A parameter of the compound class, with its `$`.
     Parameter(Word),
-    /// The end of the class.
+    /// The end of its body.
     Close,
-    /// A name at fault. It is visited where it stands, and in a body at the declaration of the class.
+    /// A name at fault. It is told where it stands, also in a body that no use walks.
     Name(Fault),
-    /// A port that the class does not name. In a body it is visited at each use.
+    /// A port that the compound class does not name. In a body it is told at each use.
     MissingPort(Fault),
-    /// The arguments of a use of the class of that number are counted.
+    /// The arguments of a use of the compound class of that number are counted.
     Count(usize, Use),
     /// So many elements of a use come, which all have room or none.
     Room(usize, Use),
     /// An element comes, with the name under which it is declared.
     Element(Option<Word>, Use),
-    /// The body of the class of that number is walked, for a use that is used at a place of the text.
+    /// The body of the compound class of that number is walked, for a use that is created at a byte of the text.
     Enter(usize, Use, usize),
-    /// A connection, with the place of its `->`.
+    /// A connection, behind the byte of its `->`.
     Connect(usize, Side, Side),
 }
 
-/// What is created at a place of the text: the element of that number, or the use of a class of that number.
+/// What is created at a byte of the text: the element of that number, or the use of a compound class of that number.
 #[derive(Clone, Copy, Debug, PartialEq, Eq)]
 pub enum CreatedItem {
     Element(u32),
     Use(usize),
 }
 
-/// What is created in the use of a number, which is 0 outside classes, at a place of the text.
+/// What is created in the use of a number, which is 0 outside compound classes, at a byte of the text (`offset`).
 #[derive(Clone, Copy, Debug, PartialEq, Eq)]
 pub struct Created {
     pub enclosing: usize,
@@ -52,7 +52,7 @@ pub struct Created {
     pub item: CreatedItem,
 }
 
-/// A connection in the use of a number, with the place of its `->`.
+/// A connection in the use of a number; `arrow` is the byte of its `->`.
 #[derive(Clone, Copy, Debug, PartialEq, Eq)]
 pub struct Connected {
     pub enclosing: usize,

@@ -58,7 +58,7 @@ fn found(alloc: Global, text: &[u8]) -> Result<Graph, ClickFault>
 }
 
 /// The graph of a configuration text of at most 1,048,576 bytes, or its first fault. The elements stand
-/// in the order of their places of declaration. There is a wire for each `->` at which a path of
+/// in the order of their declarations. There is a wire for each `->` at which a path of
 /// connections, through ports of uses of classes, leaves an output of an element, and each input of an
 /// element that it comes to; wires stand in the order of these `->`, and at one `->` by the numbers from,
 /// out, to and into.

@@ -21,7 +21,7 @@ pub enum Port {
     UseInput(usize, u32),
 }
 
-/// A connection, with the place of its `->`.
+/// A connection; `arrow` is the byte of its `->`, counted from 0.
 #[derive(Clone, Copy, Debug, PartialEq, Eq)]
 pub struct Connection {
     pub arrow: usize,
@@ -29,8 +29,8 @@ pub struct Connection {
     pub to: Port,
 }
 
-/// A path of connections from an output of an element to an input of one, with the place of the `->` at which
-/// it leaves the output. PathsFound are ordered by their fields.
+/// A path of connections from an output of an element to an input of one, with the byte of the `->` at which
+/// it leaves the output. Paths are ordered by their fields.
 #[derive(Clone, Copy, Debug, PartialEq, Eq, PartialOrd, Ord)]
 pub struct Path {
     pub arrow: usize,
@@ -40,7 +40,7 @@ pub struct Path {
     pub into: u32,
 }
 
-/// What is created in each use, by the number of the use and the place of the text.
+/// What is created in each use, by the number of the use and the byte of the text.
 #[derive(Drop)]
 pub struct ItemTable<'a> {
     pub created: &'a [Created],

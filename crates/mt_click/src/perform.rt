@@ -51,7 +51,7 @@ pub struct Activation {
     pub bindings: Vec<Binding>,
 }
 
-/// The arguments of a use, with each parameter of the class enclosing it replaced before they are
+/// The arguments of a use, with each parameter of the enclosing compound class replaced before they are
 /// separated.
 #[tactic(auto, unfolding(crate::specs::Elements::arguments_in))]
 fn arguments_of_use(
@@ -102,7 +102,7 @@ fn check_names(alloc: Global, text: &[u8], bindings: &[Binding], used: Use) -> R
     }
 }
 
-// The numbers of the uses enclosing an element, each with its `/`.
+// The numbers of the uses that enclose an element, each with its `/`.
 fn push_numbers(
     alloc: Global,
     name: &mut Vec<u8>,
@@ -177,7 +177,7 @@ fn enclosing_bindings(activations: &[Activation]) -> &[Binding]
     }
 }
 
-/// The place at which the body of a class begins; the end of the actions where there is none.
+/// The index at which the body of a compound class begins; the end of the actions where there is none.
 pub fn body_index(input: &WalkInput<'_>, class: usize) -> usize
     ensures body { drop result input.now.actions.now ≡ body_of (bodies input.now) class }
     ensures within { result ≤ length input.now.actions.now }
@@ -328,7 +328,7 @@ fn connect(
     Ok(())
 }
 
-/// What a action adds to the elements, and the use that is walked next. `activations` are the uses enclosing it.
+/// What an action adds to the elements, and the use that is walked next. `activations` are the uses that enclose it.
 #[tactic(auto, unfolding(crate::specs::Walk::moved))]
 pub fn perform(
     alloc: Global,

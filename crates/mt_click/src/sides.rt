@@ -8,7 +8,7 @@ use crate::names::port_number;
 use crate::symbols::{Scope, Symbols, index_declared, is_pseudo_name};
 use mt_syntax::{Endpoint, Item, Phrase, Word, word_bytes};
 
-// Where what is declared at a place among the names is used.
+// The byte at which the name at an index among the names is declared, or else the byte that is given.
 fn offset_created(symbols: &Symbols<'_>, at: usize, index: Option<usize>) -> usize
     ensures { result ≡ offset_at (names symbols.now).names at index }
 {

@@ -58,7 +58,7 @@ pub struct Entry {
     pub class: Option<usize>,
 }
 
-/// Entries, and under each scope, number and name the place of the first.
+/// Entries, and under each scope, number and name the index of the first.
 #[derive(Drop)]
 pub struct Table<'a> {
     pub text: &'a [u8],
@@ -92,7 +92,7 @@ pub fn table_of<'a>(
 }
 
 impl<'a> Table<'a> {
-    /// The place of the first entry under a name.
+    /// The index of the first entry under a name.
     pub fn find(&self, scope: usize, number: u32, name: &[u8]) -> Option<usize>
         requires { IsTable self.now }
         ensures { result ≡ first_entry self.now.text.now self.now.entries.items scope number name.now }
@@ -168,7 +168,7 @@ pub fn has_port(symbols: &Symbols<'_>, class: usize, side: &[u8], number: u32) -
     symbols.ports.find(class, number, side).is_some()
 }
 
-// The class of what is declared at a place.
+// The compound class of what is declared at an index among the names.
 fn class_declared(symbols: &Symbols<'_>, index: usize) -> Option<usize>
     ensures { result ≡ class_at (names symbols.now).names (Some index) }
 {

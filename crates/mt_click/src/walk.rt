@@ -98,7 +98,7 @@ fn activation_of(
     })
 }
 
-// A use that was visited is walked next.
+// A use that was created is walked next.
 fn push_use(
     alloc: Global,
     input: &WalkInput<'_>,
@@ -186,7 +186,7 @@ fn walk_use(
     Ok(())
 }
 
-// Walks over a action outside classes.
+// Walks over an action outside classes.
 fn walk_top(
     alloc: Global,
     input: &WalkInput<'_>,
