@@ -4,10 +4,10 @@ use Rattle.std.specs.Prelude.{Option, Some, None, is_some, ◌&&◌}
 use Rattle.std.proofs.lemmas.Bool.{le-leb, ne_eqb}
 use Rattle.mt_pcap.specs.declared.fault.PcapFault.{PcapFault}
 use Rattle.mt_pcap.specs.Capture.{Capture}
-use Rattle.mt_pcap.specs.Merge.{most_frames, first_stamp, is_least, is_at_fault, fault_met, next_place, Taken, taken, ends, step, Merge, merge_from, merge_of}
-use Rattle.mt_pcap.specs.MergeLaws.{numbered_from, end_of, alone}
+use Rattle.mt_pcap.specs.Merge.{most_frames, first_stamp, is_least, is_at_fault, fault_met, next_index, Taken, taken, ends, step, Merge, merge_from, merge_of}
+use Rattle.mt_pcap.specs.MergeFacts.{numbered_from, end_of, alone}
 use Rattle.mt_pcap.proofs.Merges.{merge-ends, merge-more, step-fault, step-done, step-next}
-use Rattle.mt_pcap.proofs.Positions.{found, missing, NoneBefore}
+use Rattle.mt_lists.proofs.Positions.{found, missing, NoneBefore}
 
 -- the first of one element
 one_passes : {X : Type 0} (p : X → Bool) (x : X) → p x ≡ true → position p (x ∷ []) ≡ Some 0
@@ -37,19 +37,19 @@ unmet r records end =
     let e : is_at_fault (with_first r records end) ≡ false = ap (λ b. b && is_some end) (ne_eqb (suc (length records)) 0 (λ e. absurd (omega (arith, e)))) in
     rw (one_fails is_at_fault (with_first r records end) e) refl
 
-place : (r : ℕ × List ℕ) (records : List (ℕ × List ℕ)) (end : Option PcapFault) → next_place (with_first r records end ∷ []) ≡ Some 0
-unfolding next_place
-place r records end =
+index : (r : ℕ × List ℕ) (records : List (ℕ × List ℕ)) (end : Option PcapFault) → next_index (with_first r records end ∷ []) ≡ Some 0
+unfolding next_index
+index r records end =
     one_passes (λ c. is_least (with_first r records end ∷ []) (first_stamp c)) (with_first r records end) (ap (λ b. b && true) (le-leb r.0 r.0 (omega arith)))
 
 next : (r : ℕ × List ℕ) (records : List (ℕ × List ℕ)) (end : Option PcapFault) → taken (with_first r records end ∷ []) ≡ Some (first_taken r records end)
 unfolding taken
-next r records end = rw (place r records end) refl
+next r records end = rw (index r records end) refl
 
 -- ---- with none left
 
-no_place : (end : Option PcapFault) → next_place (empty end ∷ []) ≡ None
-unfolding next_place
+no_place : (end : Option PcapFault) → next_index (empty end ∷ []) ≡ None
+unfolding next_index
 no_place end = one_fails (λ c. is_least (empty end ∷ []) (first_stamp c)) (empty end) refl
 
 no_next : (end : Option PcapFault) → taken (empty end ∷ []) ≡ None

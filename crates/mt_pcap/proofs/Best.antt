@@ -8,21 +8,21 @@ use Rattle.std.proofs.lemmas.List.Folds.{list_all_at}
 use Rattle.std.proofs.lemmas.List.Elements.{All-from_get_or}
 use Rattle.std.proofs.lemmas.Option.{slice_get-get_or}
 use Rattle.mt_pcap.specs.Capture.{Capture, ended}
-use Rattle.mt_pcap.specs.Merge.{first_stamp, is_from, is_least, next_place}
-use Rattle.mt_pcap.proofs.Positions.{NoneBefore, found, missing}
+use Rattle.mt_pcap.specs.Merge.{first_stamp, is_from, is_least, next_index}
+use Rattle.mt_lists.proofs.Positions.{NoneBefore, found, missing}
 
--- the time of the first record at a place
+-- the time of the first record at a index
 abbrev pub stamp_at : List Capture → ℕ → Option ℕ
 stamp_at left k = first_stamp (get_or left k (ended None))
 
--- the first record at a place is of least time among those before another place, and the first such
-pub record IsBest (left : List Capture) (i place stamp : ℕ) : Type 0 where
-  pub within : place < i
-  pub here : stamp_at left place ≡ Some stamp
+-- the first record at a index is of least time among those before another index, and the first such
+pub record IsBest (left : List Capture) (i index stamp : ℕ) : Type 0 where
+  pub within : index < i
+  pub here : stamp_at left index ≡ Some stamp
   pub least : (k t : ℕ) → k < i → stamp_at left k ≡ Some t → stamp ≤ t
-  pub first : (k t : ℕ) → k < place → stamp_at left k ≡ Some t → stamp < t
+  pub first : (k t : ℕ) → k < index → stamp_at left k ≡ Some t → stamp < t
 
--- what is known of the captures before a place
+-- what is known of the captures before a index
 pub record Best (left : List Capture) (i : ℕ) (best : Option (ℕ × ℕ)) : Type 0 where
   pub known : MatchOption best ((k : ℕ) → k < i → stamp_at left k ≡ None) (λ b. IsBest left i b.0 b.1)
 
@@ -64,8 +64,8 @@ found_first left i stamp here none = record {
 }
 
 -- one that is not before the best so far
-kept : (left : List Capture) (i place least stamp : ℕ) → stamp_at left i ≡ Some stamp → least ≤ stamp → IsBest left i place least → IsBest left (i + 1) place least
-kept left i place least stamp here le is = record {
+kept : (left : List Capture) (i index least stamp : ℕ) → stamp_at left i ≡ Some stamp → least ≤ stamp → IsBest left i index least → IsBest left (i + 1) index least
+kept left i index least stamp here le is = record {
   within = let w = is.within in omega arith;
   here = is.here;
   least = λ k t lt some. elim (cases_lt k i) [
@@ -76,8 +76,8 @@ kept left i place least stamp here le is = record {
 }
 
 -- one that is before it
-taken_over : (left : List Capture) (i place least stamp : ℕ) → stamp_at left i ≡ Some stamp → stamp < least → IsBest left i place least → IsBest left (i + 1) i stamp
-taken_over left i place least stamp here earlier is = record {
+taken_over : (left : List Capture) (i index least stamp : ℕ) → stamp_at left i ≡ Some stamp → stamp < least → IsBest left i index least → IsBest left (i + 1) i stamp
+taken_over left i index least stamp here earlier is = record {
   within = omega arith;
   here = here;
   least = λ k t lt some. elim (cases_lt k i) [
@@ -98,7 +98,7 @@ sooner_best left i stamp (Some b) after here is known = elim (cases_lt stamp b.1
       rw e (kept left i b.0 b.1 stamp here le known.known)
 ]
 
--- the capture that a loop reads at a place
+-- the capture that a loop reads at a index
 at_place : (left : List Capture) (i : ℕ) (x : Capture) → i < length left → x ≡ get_or left i x → first_stamp x ≡ stamp_at left i
 at_place left i x lt is = ap first_stamp (is ∙ get_or_default left i x (ended None) lt)
 
@@ -127,26 +127,26 @@ passes left stamp least =
     at (Some t) le = le-leb stamp t (le t refl)
 
 -- a time that another is before, and no time
-fails : (left : List Capture) (o : Option ℕ) (place stamp : ℕ) → place < length left → stamp_at left place ≡ Some stamp → ((t : ℕ) → o ≡ Some t → stamp < t) → is_least left o ≡ false
-fails left None place stamp lt here later = refl
-fails left (Some t) place stamp lt here later =
-    list_all_at (λ c. is_from t (first_stamp c)) left place (ended None) lt (ap (is_from t) here ∙ lt-leb t stamp (later t refl))
+fails : (left : List Capture) (o : Option ℕ) (index stamp : ℕ) → index < length left → stamp_at left index ≡ Some stamp → ((t : ℕ) → o ≡ Some t → stamp < t) → is_least left o ≡ false
+fails left None index stamp lt here later = refl
+fails left (Some t) index stamp lt here later =
+    list_all_at (λ c. is_from t (first_stamp c)) left index (ended None) lt (ap (is_from t) here ∙ lt-leb t stamp (later t refl))
 
--- a loop that has seen all knows the place
-pub best_found : (left : List Capture) (i place stamp : ℕ) → i ≡ length left → Best left i (Some (place, stamp)) → Some place ≡ next_place left
-unfolding next_place
-best_found left i place stamp all known =
+-- a loop that has seen all knows the index
+pub best_found : (left : List Capture) (i index stamp : ℕ) → i ≡ length left → Best left i (Some (index, stamp)) → Some index ≡ next_index left
+unfolding next_index
+best_found left i index stamp all known =
     let is = known.known in
     let within = is.within in
-    let lt : place < length left = omega arith in
-    let none : NoneBefore (test left) left place = λ k d before.
+    let lt : index < length left = omega arith in
+    let none : NoneBefore (test left) left index = λ k d before.
     ap (λ c. is_least left (first_stamp c)) (get_or_default left k d (ended None) (omega arith))
-    ∙ fails left (stamp_at left k) place stamp lt is.here (λ t some. is.first k t before some) in
-    let here : is_least left (stamp_at left place) ≡ true = ap (is_least left) is.here ∙ passes left stamp (λ k t below some. is.least k t (omega arith) some) in
-    sym (found (test left) left place (get_or left place (ended None)) none (slice_get-get_or left place (ended None) lt) here)
+    ∙ fails left (stamp_at left k) index stamp lt is.here (λ t some. is.first k t before some) in
+    let here : is_least left (stamp_at left index) ≡ true = ap (is_least left) is.here ∙ passes left stamp (λ k t below some. is.least k t (omega arith) some) in
+    sym (found (test left) left index (get_or left index (ended None)) none (slice_get-get_or left index (ended None) lt) here)
 
-pub none_found : (left : List Capture) (i : ℕ) → i ≡ length left → Best left i None → None ≡ next_place left
-unfolding next_place
+pub none_found : (left : List Capture) (i : ℕ) → i ≡ length left → Best left i None → None ≡ next_index left
+unfolding next_index
 none_found left i all known =
     sym (missing (test left) left i all (λ k d before.
     ap (λ c. is_least left (first_stamp c)) (get_or_default left k d (ended None) (omega arith)) ∙ ap (is_least left) (known.known k before)))

@@ -10,7 +10,7 @@ use Rattle.mt_pcap.specs.declared.fault.PcapFault.TheVariants.{NotPcap, WrongLin
 use Rattle.mt_pcap.specs.Format.{second, longest}
 use Rattle.mt_pcap.specs.Capture.{Capture, record_at, header_of, ended, onwards, records_of, all_records, with_header, capture_of}
 use Rattle.mt_pcap.specs.Laws.{IsWritable}
-use Rattle.mt_pcap.specs.Facts.{IsOfBytes}
+use Rattle.mt_pcap.specs.Capture.{IsOfBytes}
 use Rattle.mt_pcap.proofs.Headers.{too_short, unknown, other_link, ethernet, header_case, link_in}
 use Rattle.mt_pcap.proofs.Numbers.{IsBytes, IsBytes-drop, number-lt}
 use Rattle.mt_pcap.proofs.Records.{cut_head, bad, cut_data, whole, case_of, Took, took, at_zero, at_end, at_some, captured, fraction, seconds}

@@ -7,7 +7,6 @@ pub mod Facts
 pub mod Stands
 pub mod Again
 pub mod Rows
-pub mod Positions
 pub mod Merges
 pub mod Best
 pub mod MergeSteps

@@ -12,7 +12,8 @@ use Rattle.mt_pcap.specs.declared.merging.MergedEnd.{MergedEnd}
 use Rattle.mt_pcap.specs.declared.merging.MergedEnd.TheVariants.{Done, Fault, Frames}
 use Rattle.mt_pcap.specs.declared.reading.WholeCapture.{WholeCapture}
 use Rattle.mt_pcap.specs.Capture.{Capture, ended}
-use Rattle.mt_pcap.specs.Merge.{most_frames, capture_seen, first_of, first_stamp, behind, is_at_fault, Taken, Step, ends, gives, step, Merge, stamped, merge_from, merge_of}
+use Rattle.mt_pcap.specs.Capture.{capture_seen}
+use Rattle.mt_pcap.specs.Merge.{most_frames, first_of, first_stamp, behind, is_at_fault, Taken, MergeStep, ends, gives, step, Merge, stamped, merge_from, merge_of}
 use Rattle.mt_pcap.specs.MergeFacts.{of_device, AreFronts, AreAll, IsMet, AreNumbered, Ascends, IsInOrder, IsNoLater}
 use Rattle.mt_pcap.proofs.Merges.{merge-ends, merge-full, merge-more}
 use Rattle.mt_pcap.proofs.Best.{stamp_at}
@@ -25,11 +26,11 @@ module _ (P : ℕ → ℕ → List Capture → Merge → Type 0)
     (at_limit : (number : ℕ) (left : List Capture) → P 0 number left (record { frames = []; end = Frames (most_frames + 1) }))
     (at_next : (room number : ℕ) (left : List Capture) (next : Taken) → Gives left next → P room (number + 1) next.left (merge_from room (number + 1) next.left)
     → P (suc room) number left (record { frames = stamped number next ∷ (merge_from room (number + 1) next.left).frames; end = (merge_from room (number + 1) next.left).end })) where
-  stopped : (number : ℕ) (left : List Capture) (s : Step) → step left ≡ s → P 0 number left (merge_from 0 number left)
+  stopped : (number : ℕ) (left : List Capture) (s : MergeStep) → step left ≡ s → P 0 number left (merge_from 0 number left)
   stopped number left (ends end) is = subst (P 0 number left) (sym (merge-ends 0 number left end is)) (at_end 0 number left end (ends_by left end is))
   stopped number left (gives next) is = subst (P 0 number left) (sym (merge-full number left next is)) (at_limit number left)
 
-  stepped : (room number : ℕ) (left : List Capture) (s : Step) → step left ≡ s → ((next : List Capture) → P room (number + 1) next (merge_from room (number + 1) next))
+  stepped : (room number : ℕ) (left : List Capture) (s : MergeStep) → step left ≡ s → ((next : List Capture) → P room (number + 1) next (merge_from room (number + 1) next))
       → P (suc room) number left (merge_from (suc room) number left)
   stepped room number left (ends end) is others = subst (P (suc room) number left) (sym (merge-ends (suc room) number left end is)) (at_end (suc room) number left end (ends_by left end is))
   stepped room number left (gives next) is others = subst (P (suc room) number left) (sym (merge-more room number left next is)) (at_next room number left next (gives_next left next is) (others next.left))
@@ -120,14 +121,14 @@ given_holds Q left next g all =
     let there = g.there in
     let first = g.first in
     let lt = slice_get_within g.capture.records 0 next.given first in
-    let at : Q (g.place + 1) (get_or g.capture.records 0 next.given) = all g.place g.capture there 0 next.given lt in
-    subst (λ d. Q d next.given) (sym g.device_is) (subst (Q (g.place + 1)) (get_or_from_slice_get g.capture.records 0 next.given next.given first) at)
+    let at : Q (g.index + 1) (get_or g.capture.records 0 next.given) = all g.index g.capture there 0 next.given lt in
+    subst (λ d. Q d next.given) (sym g.device_is) (subst (Q (g.index + 1)) (get_or_from_slice_get g.capture.records 0 next.given next.given first) at)
 
 left_holds : (Q : ℕ → ℕ × List ℕ → Type 0) (left : List Capture) (next : Taken) → Gives left next → AllLeft Q left → AllLeft Q next.left
 left_holds Q left next g all k c there =
-    elim (after_set left g.place k (behind g.capture) c (ap (λ l. slice_get l k) (sym g.left_is) ∙ there)) [
+    elim (after_set left g.index k (behind g.capture) c (ap (λ l. slice_get l k) (sym g.left_is) ∙ there)) [
       | inl (same, is) ↦
-          let at : All (Q (k + 1)) g.capture.records = subst (λ n. All (Q (n + 1)) g.capture.records) (sym same) (all g.place g.capture g.there) in
+          let at : All (Q (k + 1)) g.capture.records = subst (λ n. All (Q (n + 1)) g.capture.records) (sym same) (all g.index g.capture g.there) in
           subst (λ (d : Capture). All (Q (k + 1)) d.records) (sym is) (All-drop (Q (k + 1)) 1 g.capture.records at)
       | inr (other, is) ↦ all k c is
     ]
@@ -169,7 +170,7 @@ split_at_fault left end fault at is k c there = record {
       let d : fault.0 ≡ k + 1 = cc in
       let w : fault.1 ≡ f = cc in
       let p = at.device_is in
-      let same : at.place ≡ k = omega arith in
+      let same : at.index ≡ k = omega arith in
       let there_too : slice_get left k ≡ Some at.capture = subst (λ n. slice_get left n ≡ Some at.capture) same at.there in
       let one : at.capture ≡ c = cc in
       (subst (λ (x : Capture). x.records ≡ []) one at.empty, subst (λ (x : Capture). x.end ≡ Some f) one (at.end_is ∙ ap Some w));
@@ -177,7 +178,7 @@ split_at_fault left end fault at is k c there = record {
       let g : Fault fault.0 fault.1 ≡ Fault d f = sym is ∙ e in
       let same : fault.0 ≡ d = cc in
       let p = at.device_is in
-      let before : k < at.place = omega arith in
+      let before : k < at.index = omega arith in
       no_fault c (at.before k c before there) empty;
 }
 
@@ -214,14 +215,14 @@ other_frame device x frames is =
     let t : (x.device == device) ≡ false = ne_eqb x.device device is in
     ap (λ b. map (λ (f : Stamped). (f.stamp, f.frame)) (cond b (x ∷ filter (λ (f : Stamped). f.device == device) frames) (filter (λ (f : Stamped). f.device == device) frames))) t
 
-split_own : (number : ℕ) (left : List Capture) (next : Taken) (m : Merge) (c : Capture) (g : Gives left next) → c ≡ g.capture → Splits (g.place + 1) (behind c) m
-    → Splits (g.place + 1) c (record { frames = stamped number next ∷ m.frames; end = m.end })
+split_own : (number : ℕ) (left : List Capture) (next : Taken) (m : Merge) (c : Capture) (g : Gives left next) → c ≡ g.capture → Splits (g.index + 1) (behind c) m
+    → Splits (g.index + 1) c (record { frames = stamped number next ∷ m.frames; end = m.end })
 split_own number left next m c g is s = record {
   rest = s.rest;
   parts =
       first_and_behind c next.given (ap first_of is ∙ g.first)
       ∙ ap (λ l. next.given ∷ l) s.parts
-      ∙ ap (λ l. l ++ s.rest) (sym (own_frame (g.place + 1) (stamped number next) m.frames g.device_is));
+      ∙ ap (λ l. l ++ s.rest) (sym (own_frame (g.index + 1) (stamped number next) m.frames g.device_is));
   done = s.done;
   fault = s.fault;
   lower = s.lower;
@@ -238,14 +239,14 @@ split_other number k next m c other s = record {
 }
 
 split_next : (number : ℕ) (left : List Capture) (next : Taken) (m : Merge) → Gives left next → AllSplit 0 0 next.left m → AllSplit 0 0 left (record { frames = stamped number next ∷ m.frames; end = m.end })
-split_next number left next m g h k c there = elim (cases_eq k g.place) [
+split_next number left next m g h k c there = elim (cases_eq k g.index) [
   | inl same ↦
-      let at : slice_get left g.place ≡ Some c = subst (λ n. slice_get left n ≡ Some c) same there in
+      let at : slice_get left g.index ≡ Some c = subst (λ n. slice_get left n ≡ Some c) same there in
       let is : c ≡ g.capture = let t = g.there in cc in
-      let behind_it : slice_get next.left g.place ≡ Some (behind c) = ap (λ l. slice_get l g.place) g.left_is ∙ set_same left g.place (behind g.capture) c at ∙ ap (λ x. Some (behind x)) (sym is) in
-      subst (λ n. Splits (n + 1) c (record { frames = stamped number next ∷ m.frames; end = m.end })) (sym same) (split_own number left next m c g is (h g.place (behind c) behind_it))
+      let behind_it : slice_get next.left g.index ≡ Some (behind c) = ap (λ l. slice_get l g.index) g.left_is ∙ set_same left g.index (behind g.capture) c at ∙ ap (λ x. Some (behind x)) (sym is) in
+      subst (λ n. Splits (n + 1) c (record { frames = stamped number next ∷ m.frames; end = m.end })) (sym same) (split_own number left next m c g is (h g.index (behind c) behind_it))
   | inr other ↦
-      let still : slice_get next.left k ≡ Some c = ap (λ l. slice_get l k) g.left_is ∙ set_other left g.place k (behind g.capture) c other there in
+      let still : slice_get next.left k ≡ Some c = ap (λ l. slice_get l k) g.left_is ∙ set_other left g.index k (behind g.capture) c other there in
       let d = g.device_is in
       split_other number k next m c (λ e. other (omega (arith, e, d))) (h k c still)
 ]
@@ -258,13 +259,13 @@ all_split = by_steps AllSplit
 
 -- the device of a fault has a capture
 abbrev pub FaultIsThere : ℕ → ℕ → List Capture → Merge → Type 0
-FaultIsThere room number left m = (d : ℕ) (f : PcapFault) → m.end ≡ Fault d f → (place : ℕ) × (place < length left) × (d ≡ place + 1)
+FaultIsThere room number left m = (d : ℕ) (f : PcapFault) → m.end ≡ Fault d f → (index : ℕ) × (index < length left) × (d ≡ index + 1)
 
 there_at_end : (left : List Capture) (end : MergedEnd) → EndsBy left end → FaultIsThere 0 0 left (record { frames = []; end = end })
 there_at_end left end (by_fault fault at is) d f e =
     let g : Fault fault.0 fault.1 ≡ Fault d f = sym is ∙ e in
     let same : fault.0 ≡ d = cc in
-    (at.place, slice_get_within left at.place at.capture at.there, sym same ∙ at.device_is)
+    (at.index, slice_get_within left at.index at.capture at.there, sym same ∙ at.device_is)
 there_at_end left end (by_want empty is) d f e = let g : Done ≡ Fault d f = sym is ∙ e in absurd cc
 
 pub fault_is_there : (room number : ℕ) (left : List Capture) → FaultIsThere room number left (merge_from room number left)
@@ -273,7 +274,7 @@ fault_is_there = by_steps FaultIsThere
     (λ number left d f e. absurd cc)
     (λ room number left next g h d f e.
     let t = h d f e in
-    let same : length next.left ≡ length left = ap length g.left_is ∙ length-set left g.place (behind g.capture) in
+    let same : length next.left ≡ length left = ap length g.left_is ∙ length-set left g.index (behind g.capture) in
     (t.0, omega (arith, t.1, same), t.2))
 
 -- ---- the order
@@ -297,8 +298,8 @@ order_behind c order = by_records c.records order
 
 order_left : (left : List Capture) (next : Taken) → Gives left next → AllInOrder left → AllInOrder next.left
 order_left left next g order k c there =
-    elim (after_set left g.place k (behind g.capture) c (ap (λ l. slice_get l k) (sym g.left_is) ∙ there)) [
-      | inl (same, is) ↦ subst IsInOrder (sym is) (order_behind g.capture (order g.place g.capture g.there))
+    elim (after_set left g.index k (behind g.capture) c (ap (λ l. slice_get l k) (sym g.left_is) ∙ there)) [
+      | inl (same, is) ↦ subst IsInOrder (sym is) (order_behind g.capture (order g.index g.capture g.there))
       | inr (other, is) ↦ order k c is
     ]
 
@@ -327,19 +328,19 @@ own_behind number next c first order =
     ]) (behind c).records whole.0
 
 -- and in another
-other_behind : (left : List Capture) (number : ℕ) (next : Taken) (g : Gives left next) (k : ℕ) (c : Capture) → k ≢ g.place → slice_get left k ≡ Some c → IsInOrder c → All (IsBehind (stamped number next) (k + 1)) c.records
+other_behind : (left : List Capture) (number : ℕ) (next : Taken) (g : Gives left next) (k : ℕ) (c : Capture) → k ≢ g.index → slice_get left k ≡ Some c → IsInOrder c → All (IsBehind (stamped number next) (k + 1)) c.records
 other_behind left number next g k c other there order =
     none_earlier (stamped number next) (k + 1) c.records order (λ r first.
-    let best = chosen_best left g.place g.chosen in
+    let best = chosen_best left g.index g.chosen in
     let is = best.1 in
     let lt = slice_get_within left k c there in
     let at_k : stamp_at left k ≡ Some r.0 = ap first_stamp (get_or_from_slice_get left k c (ended None) there) ∙ ap (option_map (λ (s : ℕ × List ℕ). s.0)) first in
-    let at_place : stamp_at left g.place ≡ Some next.given.0 = ap first_stamp (get_or_from_slice_get left g.place g.capture (ended None) g.there) ∙ ap (option_map (λ (s : ℕ × List ℕ). s.0)) g.first in
+    let at_place : stamp_at left g.index ≡ Some next.given.0 = ap first_stamp (get_or_from_slice_get left g.index g.capture (ended None) g.there) ∙ ap (option_map (λ (s : ℕ × List ℕ). s.0)) g.first in
     let known = is.here in
     let same : best.0 ≡ next.given.0 = cc in
     let le : best.0 ≤ r.0 = is.least k r.0 lt at_k in
     let d = g.device_is in
-    elim (cases_lt k g.place) [
+    elim (cases_lt k g.index) [
       | inl before ↦ let less : best.0 < r.0 = is.first k r.0 before at_k in inl (omega arith)
       | inr from ↦ elim (cases_lt next.given.0 r.0) [
         | inl less ↦ inl less
@@ -349,11 +350,11 @@ other_behind left number next g k c other there order =
 
 all_behind : (left : List Capture) (number : ℕ) (next : Taken) → Gives left next → AllInOrder left → AllLeft (IsBehind (stamped number next)) next.left
 all_behind left number next g order k c there =
-    elim (after_set left g.place k (behind g.capture) c (ap (λ l. slice_get l k) (sym g.left_is) ∙ there)) [
+    elim (after_set left g.index k (behind g.capture) c (ap (λ l. slice_get l k) (sym g.left_is) ∙ there)) [
       | inl (same, is) ↦
           let e : next.device ≡ k + 1 = g.device_is ∙ ap (λ n. n + 1) (sym same) in
           subst (λ (d : Capture). All (IsBehind (stamped number next) (k + 1)) d.records) (sym is)
-          (subst (λ n. All (IsBehind (stamped number next) n) (behind g.capture).records) e (own_behind number next g.capture g.first (order g.place g.capture g.there)))
+          (subst (λ n. All (IsBehind (stamped number next) n) (behind g.capture).records) e (own_behind number next g.capture g.first (order g.index g.capture g.there)))
       | inr (other, is) ↦ other_behind left number next g k c other is (order k c is)
     ]
 
@@ -407,13 +408,13 @@ module _ (captures : List Capture) (m : Merge) (is : m ≡ merge_of captures) wh
 
   pub fault_stands : (device : ℕ) (fault : PcapFault) → m.end ≡ Fault device fault → IsMet captures m.frames device fault
   fault_stands device fault e =
-      let t = subst (λ (n : Merge). (d : ℕ) (f : PcapFault) → n.end ≡ Fault d f → (place : ℕ) × (place < length captures) × (d ≡ place + 1)) (sym from_start) (fault_is_there most_frames 0 captures) device fault e in
+      let t = subst (λ (n : Merge). (d : ℕ) (f : PcapFault) → n.end ≡ Fault d f → (index : ℕ) × (index < length captures) × (d ≡ index + 1)) (sym from_start) (fault_is_there most_frames 0 captures) device fault e in
       let c = get_or captures t.0 (ended None) in
       let there : slice_get captures t.0 ≡ Some c = slice_get-get_or captures t.0 (ended None) t.1 in
       let s = splits t.0 c there in
       let at = s.fault fault (e ∙ ap (λ d. Fault d fault) t.2) in
       record {
-        place = t.0;
+        index = t.0;
         capture = c;
         device_is = t.2;
         there = there;

@@ -9,14 +9,14 @@ use Rattle.mt_pcap.specs.declared.fault.PcapFault.{PcapFault}
 use Rattle.mt_pcap.specs.declared.merging.MergedEnd.{MergedEnd}
 use Rattle.mt_pcap.specs.declared.merging.MergedEnd.TheVariants.{Done, Fault}
 use Rattle.mt_pcap.specs.Capture.{Capture, ended}
-use Rattle.mt_pcap.specs.Merge.{first_of, first_stamp, behind, is_at_fault, fault_met, next_place, Taken, taken, ends, gives, step_of, step}
+use Rattle.mt_pcap.specs.Merge.{first_of, first_stamp, behind, is_at_fault, fault_met, next_index, Taken, taken, ends, gives, merge_step_of, step}
 use Rattle.mt_pcap.proofs.Best.{stamp_at, IsBest, Best, nothing_yet, skipped, sooner_best, best_found, none_found}
 
 mapped : {A B : Type 0} (f : A → B) (o : Option A) (y : B) → option_map f o ≡ Some y → (x : A) × (o ≡ Some x) × (f x ≡ y)
 mapped f None y e = absurd cc
 mapped f (Some x) y e = (x, refl, cc)
 
--- ---- the place of least time
+-- ---- the index of least time
 
 abbrev sooner_of : Option (ℕ × ℕ) → ℕ × ℕ → ℕ × ℕ
 sooner_of None here = here
@@ -38,46 +38,46 @@ best_to left (suc i) =
     let e : i + 1 ≡ suc i = omega arith in
     (next.0, subst (λ n. Best left n next.0) e next.1)
 
-chosen_by : (left : List Capture) (place : ℕ) (b : Option (ℕ × ℕ)) → next_place left ≡ Some place → Best left (length left) b → (stamp : ℕ) × IsBest left (length left) place stamp
-chosen_by left place None chosen known = let none = none_found left (length left) refl known in absurd cc
-chosen_by left place (Some b) chosen known =
+chosen_by : (left : List Capture) (index : ℕ) (b : Option (ℕ × ℕ)) → next_index left ≡ Some index → Best left (length left) b → (stamp : ℕ) × IsBest left (length left) index stamp
+chosen_by left index None chosen known = let none = none_found left (length left) refl known in absurd cc
+chosen_by left index (Some b) chosen known =
     let found = best_found left (length left) b.0 b.1 refl known in
-    let same : b.0 ≡ place = cc in
+    let same : b.0 ≡ index = cc in
     (b.1, subst (λ p. IsBest left (length left) p b.1) same known.known)
 
--- the place that comes next is that of a first record of least time
-pub chosen_best : (left : List Capture) (place : ℕ) → next_place left ≡ Some place → (stamp : ℕ) × IsBest left (length left) place stamp
-chosen_best left place chosen = let b = best_to left (length left) in chosen_by left place b.0 chosen b.1
+-- the index that comes next is that of a first record of least time
+pub chosen_best : (left : List Capture) (index : ℕ) → next_index left ≡ Some index → (stamp : ℕ) × IsBest left (length left) index stamp
+chosen_best left index chosen = let b = best_to left (length left) in chosen_by left index b.0 chosen b.1
 
 -- ---- a record is given
 
 pub record Gives (left : List Capture) (next : Taken) : Type 0 where
-  pub place : ℕ
+  pub index : ℕ
   pub capture : Capture
   pub unmet : fault_met left ≡ None
-  pub chosen : next_place left ≡ Some place
-  pub there : slice_get left place ≡ Some capture
+  pub chosen : next_index left ≡ Some index
+  pub there : slice_get left index ≡ Some capture
   pub first : first_of capture ≡ Some next.given
-  pub device_is : next.device ≡ place + 1
-  pub left_is : next.left ≡ slice_set left place (behind capture)
+  pub device_is : next.device ≡ index + 1
+  pub left_is : next.left ≡ slice_set left index (behind capture)
 
-step_gives : (met : Option (ℕ × PcapFault)) (some : Option Taken) (next : Taken) → step_of met some ≡ gives next → (met ≡ None) × (some ≡ Some next)
+step_gives : (met : Option (ℕ × PcapFault)) (some : Option Taken) (next : Taken) → merge_step_of met some ≡ gives next → (met ≡ None) × (some ≡ Some next)
 step_gives (Some fault) some next e = absurd cc
 step_gives None None next e = absurd cc
 step_gives None (Some other) next e = (refl, cc)
 
 abbrev taken_from : List Capture → ℕ → Capture → ℕ × List ℕ → Taken
-taken_from left place c r = record { device = place + 1; given = r; left = slice_set left place (behind c) }
+taken_from left index c r = record { device = index + 1; given = r; left = slice_set left index (behind c) }
 
 pub gives_next : (left : List Capture) (next : Taken) → step left ≡ gives next → Gives left next
 unfolding step taken
 gives_next left next is =
     let s = step_gives (fault_met left) (taken left) next is in
-    option_and_then_some (λ place. option_and_then (λ c. option_map (taken_from left place c) (first_of c)) (slice_get left place)) (next_place left) next s.1 (λ place chosen e.
-    option_and_then_some (λ c. option_map (taken_from left place c) (first_of c)) (slice_get left place) next e (λ c there f.
-    let m = mapped (taken_from left place c) (first_of c) next f in
+    option_and_then_some (λ index. option_and_then (λ c. option_map (taken_from left index c) (first_of c)) (slice_get left index)) (next_index left) next s.1 (λ index chosen e.
+    option_and_then_some (λ c. option_map (taken_from left index c) (first_of c)) (slice_get left index) next e (λ c there f.
+    let m = mapped (taken_from left index c) (first_of c) next f in
     record {
-      place = place;
+      index = index;
       capture = c;
       unmet = s.0;
       chosen = chosen;
@@ -89,15 +89,15 @@ gives_next left next is =
 
 -- ---- it ends
 
--- a fault is met at a place
+-- a fault is met at a index
 pub record FaultAt (left : List Capture) (fault : ℕ × PcapFault) : Type 0 where
-  pub place : ℕ
+  pub index : ℕ
   pub capture : Capture
-  pub there : slice_get left place ≡ Some capture
+  pub there : slice_get left index ≡ Some capture
   pub empty : capture.records ≡ []
   pub end_is : capture.end ≡ Some fault.1
-  pub device_is : fault.0 ≡ place + 1
-  pub before : (k : ℕ) (c : Capture) → k < place → slice_get left k ≡ Some c → is_at_fault c ≡ false
+  pub device_is : fault.0 ≡ index + 1
+  pub before : (k : ℕ) (c : Capture) → k < index → slice_get left k ≡ Some c → is_at_fault c ≡ false
 
 left_true : (a b : Bool) → (a && b) ≡ true → a ≡ true
 left_true true b is = refl
@@ -112,15 +112,15 @@ none_left c is = by_records c.records (is_some c.end) is
 pub fault_at : (left : List Capture) (fault : ℕ × PcapFault) → fault_met left ≡ Some fault → FaultAt left fault
 unfolding fault_met
 fault_at left fault met =
-    option_and_then_some (λ place. option_and_then (λ c. option_map (λ (f : PcapFault). (place + 1, f)) c.end) (slice_get left place)) (position is_at_fault left) fault met (λ place found e.
-    option_and_then_some (λ c. option_map (λ (f : PcapFault). (place + 1, f)) c.end) (slice_get left place) fault e (λ c there g.
-    let m = mapped (λ (f : PcapFault). (place + 1, f)) c.end fault g in
-    let p = position-Some is_at_fault left place c found in
+    option_and_then_some (λ index. option_and_then (λ c. option_map (λ (f : PcapFault). (index + 1, f)) c.end) (slice_get left index)) (position is_at_fault left) fault met (λ index found e.
+    option_and_then_some (λ c. option_map (λ (f : PcapFault). (index + 1, f)) c.end) (slice_get left index) fault e (λ c there g.
+    let m = mapped (λ (f : PcapFault). (index + 1, f)) c.end fault g in
+    let p = position-Some is_at_fault left index c found in
     record {
-      place = place;
+      index = index;
       capture = c;
       there = there;
-      empty = none_left c (sym (ap is_at_fault (get_or_from_slice_get left place c c there)) ∙ p.1);
+      empty = none_left c (sym (ap is_at_fault (get_or_from_slice_get left index c c there)) ∙ p.1);
       end_is = m.1 ∙ ap (λ (x : ℕ × PcapFault). Some x.1) m.2;
       device_is = sym (ap (λ (x : ℕ × PcapFault). x.0) m.2);
       before = λ k d lt here. sym (ap is_at_fault (get_or_from_slice_get left k d c here)) ∙ p.2 k lt;
@@ -134,12 +134,12 @@ empty_of c none = by_records c.records none
     by_records [] none = refl
     by_records (r ∷ records) none = absurd cc
 
-taken_some : (left : List Capture) (place : ℕ) (c : Capture) (r : ℕ × List ℕ) → next_place left ≡ Some place → slice_get left place ≡ Some c → first_of c ≡ Some r → taken left ≡ Some (taken_from left place c r)
+taken_some : (left : List Capture) (index : ℕ) (c : Capture) (r : ℕ × List ℕ) → next_index left ≡ Some index → slice_get left index ≡ Some c → first_of c ≡ Some r → taken left ≡ Some (taken_from left index c r)
 unfolding taken
-taken_some left place c r chosen there first =
+taken_some left index c r chosen there first =
     ap (option_and_then (λ p. option_and_then (λ d. option_map (taken_from left p d) (first_of d)) (slice_get left p))) chosen
-    ∙ ap (option_and_then (λ d. option_map (taken_from left place d) (first_of d))) there
-    ∙ ap (option_map (taken_from left place c)) first
+    ∙ ap (option_and_then (λ d. option_map (taken_from left index d) (first_of d))) there
+    ∙ ap (option_map (taken_from left index c)) first
 
 empty_by : (left : List Capture) (b : Option (ℕ × ℕ)) → taken left ≡ None → Best left (length left) b → (k : ℕ) (c : Capture) → slice_get left k ≡ Some c → c.records ≡ []
 empty_by left None none known k c there =
@@ -160,7 +160,7 @@ pub data EndsBy (left : List Capture) (end : MergedEnd) : Type 0 where
   by_fault : (fault : ℕ × PcapFault) → FaultAt left fault → end ≡ Fault fault.0 fault.1 → EndsBy left end
   by_want : ((k : ℕ) (c : Capture) → slice_get left k ≡ Some c → c.records ≡ []) → end ≡ Done → EndsBy left end
 
-ends_how : (left : List Capture) (met : Option (ℕ × PcapFault)) (some : Option Taken) (end : MergedEnd) → fault_met left ≡ met → taken left ≡ some → step_of met some ≡ ends end → EndsBy left end
+ends_how : (left : List Capture) (met : Option (ℕ × PcapFault)) (some : Option Taken) (end : MergedEnd) → fault_met left ≡ met → taken left ≡ some → merge_step_of met some ≡ ends end → EndsBy left end
 ends_how left (Some fault) some end met is e = by_fault fault (fault_at left fault met) cc
 ends_how left None None end met is e = by_want (all_empty left is) cc
 ends_how left None (Some next) end met is e = absurd cc

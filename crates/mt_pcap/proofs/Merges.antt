@@ -6,21 +6,21 @@ use Rattle.mt_pcap.specs.declared.fault.PcapFault.{PcapFault}
 use Rattle.mt_pcap.specs.declared.merging.MergedEnd.{MergedEnd}
 use Rattle.mt_pcap.specs.declared.merging.MergedEnd.TheVariants.{Done, Fault, Frames}
 use Rattle.mt_pcap.specs.Capture.{Capture}
-use Rattle.mt_pcap.specs.Merge.{most_frames, fault_met, Taken, taken, ends, gives, step_of, step, Merge, stamped, stops, goes_on, merge_from, merge_of}
+use Rattle.mt_pcap.specs.Merge.{most_frames, fault_met, Taken, taken, ends, gives, merge_step_of, step, Merge, stamped, stops, goes_on, merge_from, merge_of}
 
 -- ---- one step
 
 pub step-fault : (left : List Capture) (fault : ℕ × PcapFault) → fault_met left ≡ Some fault → step left ≡ ends (Fault fault.0 fault.1)
 unfolding step
-step-fault left fault met = ap (λ o. step_of o (taken left)) met
+step-fault left fault met = ap (λ o. merge_step_of o (taken left)) met
 
 pub step-done : (left : List Capture) → fault_met left ≡ None → taken left ≡ None → step left ≡ ends Done
 unfolding step
-step-done left unmet none = ap (λ o. step_of o (taken left)) unmet ∙ ap (step_of None) none
+step-done left unmet none = ap (λ o. merge_step_of o (taken left)) unmet ∙ ap (merge_step_of None) none
 
 pub step-next : (left : List Capture) (next : Taken) → fault_met left ≡ None → taken left ≡ Some next → step left ≡ gives next
 unfolding step
-step-next left next unmet some = ap (λ o. step_of o (taken left)) unmet ∙ ap (step_of None) some
+step-next left next unmet some = ap (λ o. merge_step_of o (taken left)) unmet ∙ ap (merge_step_of None) some
 
 -- ---- the merge at each of them
 

@@ -1,12 +1,13 @@
 -- Reading a capture from its first byte to its last: the records, and the first fault if any.
-use Rattle.std.specs.Prelude.{ℕ, zero, suc, ◌+◌, ◌*◌, ◌%◌, List, [], ◌∷◌, length, take, drop, Option, Some, None, Result, Ok, Err, nat_lt, nat_le, ◌==◌, ◌||◌, if◌then◌else◌}
+use Rattle.std.specs.Prelude.{⊤, ℕ, zero, suc, ◌+◌, ◌*◌, ◌%◌, List, [], ◌∷◌, length, take, drop, Option, Some, None, Result, Ok, Err, nat_lt, nat_le, ◌==◌, ◌||◌, if◌then◌else◌}
 use Rattle.mt_pcap.specs.declared.form.Order.{Order}
 use Rattle.mt_pcap.specs.declared.form.Order.TheVariants.{Big, Little}
 use Rattle.mt_pcap.specs.declared.form.Resolution.{Resolution}
 use Rattle.mt_pcap.specs.declared.form.Resolution.TheVariants.{Microseconds, Nanoseconds}
 use Rattle.mt_pcap.specs.declared.form.Form.{Form}
 use Rattle.mt_pcap.specs.declared.fault.PcapFault.{PcapFault}
-use Rattle.mt_pcap.specs.declared.fault.PcapFault.TheVariants.{Torn, BadRecord, NotPcap, WrongLink}
+use Rattle.mt_pcap.specs.declared.fault.PcapFault.TheVariants.{ReadFault, NoMemory, Torn, BadRecord, NotPcap, WrongLink}
+use Rattle.mt_pcap.specs.declared.reading.WholeCapture.{WholeCapture}
 use Rattle.mt_pcap.specs.Format.{number, nanoseconds_in, second, longest}
 
 -- The records of a capture, each the time in nanoseconds and the bytes of the frame, and the fault
@@ -14,6 +15,16 @@ use Rattle.mt_pcap.specs.Format.{number, nanoseconds_in, second, longest}
 pub record Capture : Type 0 where
   pub records : List (ℕ × List ℕ)
   pub end : Option PcapFault
+
+-- a capture that was read, as it is seen
+abbrev pub capture_seen : WholeCapture → Capture
+capture_seen c = record { records = c.records.items; end = c.end }
+
+-- the end is one that the bytes of a file have, and not of reading the file or of memory
+abbrev pub IsOfBytes : Option PcapFault → Type 0
+IsOfBytes (Some ReadFault) = ⊥
+IsOfBytes (Some NoMemory) = ⊥
+IsOfBytes end = ⊤
 
 -- ---- the header
 

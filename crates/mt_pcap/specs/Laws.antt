@@ -6,7 +6,7 @@ use Rattle.mt_pcap.specs.declared.fault.PcapFault.TheVariants.{NotPcap, WrongLin
 use Rattle.mt_pcap.specs.Format.{Header, header_bytes, link_type, Record, record_bytes, IsRecord, told, EndsAs, second, longest}
 use Rattle.mt_pcap.specs.Capture.{Capture, capture_of}
 use Rattle.mt_pcap.specs.Text.{capture_text}
-use Rattle.mt_pcap.specs.Facts.{IsOfBytes}
+use Rattle.mt_pcap.specs.Capture.{IsOfBytes}
 
 -- the bytes are an Ethernet header, the records that the capture has, and a rest that ends it so
 pub record IsOfRecords (bytes : List ℕ) (capture : Capture) : Type 0 where

@@ -2,7 +2,5 @@ pub mod Format
 pub mod Capture
 pub mod Text
 pub mod Laws
-pub mod Facts
 pub mod Merge
 pub mod MergeFacts
-pub mod MergeLaws

@@ -3,7 +3,6 @@ use Rattle.std.specs.Prelude.{ℕ, zero, suc, ◌+◌, ◌==◌, ◌&&◌, Bool,
 use Rattle.std.specs.List.{list_all}
 use Rattle.mt_packet.specs.declared.frame.Stamped.{Stamped}
 use Rattle.mt_pcap.specs.declared.fault.PcapFault.{PcapFault}
-use Rattle.mt_pcap.specs.declared.reading.WholeCapture.{WholeCapture}
 use Rattle.mt_pcap.specs.declared.merging.MergedEnd.{MergedEnd}
 use Rattle.mt_pcap.specs.declared.merging.MergedEnd.TheVariants.{Done, Fault, Frames}
 use Rattle.mt_pcap.specs.Capture.{Capture}
@@ -11,10 +10,6 @@ use Rattle.mt_pcap.specs.Capture.{Capture}
 -- the most frames that are given
 abbrev pub most_frames : ℕ
 most_frames = 16777216
-
--- a capture that was read
-abbrev pub capture_seen : WholeCapture → Capture
-capture_seen c = record { records = c.records.items; end = c.end }
 
 -- ---- what is left of one capture
 
@@ -39,7 +34,7 @@ is_at_fault c = (length c.records == 0) && is_some c.end
 unfoldable pub fault_met : List Capture → Option (ℕ × PcapFault)
 fault_met left =
     option_and_then
-    (λ place. option_and_then (λ c. option_map (λ fault. (place + 1, fault)) c.end) (slice_get left place))
+    (λ index. option_and_then (λ c. option_map (λ fault. (index + 1, fault)) c.end) (slice_get left index))
     (position is_at_fault left)
 
 -- there is no time, or it is not before this one
@@ -53,8 +48,8 @@ is_least left None = false
 is_least left (Some stamp) = list_all (λ c. is_from stamp (first_stamp c)) left
 
 -- the first of the captures whose first record is of least time
-unfoldable pub next_place : List Capture → Option ℕ
-next_place left = position (λ c. is_least left (first_stamp c)) left
+unfoldable pub next_index : List Capture → Option ℕ
+next_index left = position (λ c. is_least left (first_stamp c)) left
 
 -- the record that comes next, with its device, and what is left behind it
 pub record Taken : Type 0 where
@@ -65,23 +60,23 @@ pub record Taken : Type 0 where
 unfoldable pub taken : List Capture → Option Taken
 taken left =
     option_and_then
-    (λ place. option_and_then (λ c. option_map (λ r. record { device = place + 1; given = r; left = slice_set left place (behind c) }) (first_of c)) (slice_get left place))
-    (next_place left)
+    (λ index. option_and_then (λ c. option_map (λ r. record { device = index + 1; given = r; left = slice_set left index (behind c) }) (first_of c)) (slice_get left index))
+    (next_index left)
 
 -- ---- one frame after the other
 
 -- a merge goes one step on: it ends, or gives a record
-pub data Step : Type 0 where
-  ends : MergedEnd → Step
-  gives : Taken → Step
+pub data MergeStep : Type 0 where
+  ends : MergedEnd → MergeStep
+  gives : Taken → MergeStep
 
-abbrev pub step_of : Option (ℕ × PcapFault) → Option Taken → Step
-step_of (Some fault) next = ends (Fault fault.0 fault.1)
-step_of None None = ends Done
-step_of None (Some next) = gives next
+abbrev pub merge_step_of : Option (ℕ × PcapFault) → Option Taken → MergeStep
+merge_step_of (Some fault) next = ends (Fault fault.0 fault.1)
+merge_step_of None None = ends Done
+merge_step_of None (Some next) = gives next
 
-unfoldable pub step : List Capture → Step
-step left = step_of (fault_met left) (taken left)
+unfoldable pub step : List Capture → MergeStep
+step left = merge_step_of (fault_met left) (taken left)
 
 -- the frames that are given, and why there are no more
 pub record Merge : Type 0 where
@@ -92,12 +87,12 @@ abbrev pub stamped : ℕ → Taken → Stamped
 stamped number next = record { stamp = next.given.0; device = next.device; number = number; frame = next.given.1 }
 
 -- where no more frames may be given
-abbrev pub stops : Step → Merge
+abbrev pub stops : MergeStep → Merge
 stops (ends end) = record { frames = []; end = end }
 stops (gives next) = record { frames = []; end = Frames (most_frames + 1) }
 
 -- where there is room for one more
-abbrev pub goes_on : ℕ → (List Capture → Merge) → Step → Merge
+abbrev pub goes_on : ℕ → (List Capture → Merge) → MergeStep → Merge
 goes_on number others (ends end) = record { frames = []; end = end }
 goes_on number others (gives next) = record { frames = stamped number next ∷ (others next.left).frames; end = (others next.left).end }
 

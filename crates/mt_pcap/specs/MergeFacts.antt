@@ -1,11 +1,13 @@
--- What holds of the frames that a merge gives, whatever the captures.
-use Rattle.std.specs.Prelude.{◌≡◌, ◌<◌, ◌≤◌, ◌⊎◌, ℕ, ◌+◌, ◌==◌, List, [], ◌∷◌, ◌++◌, map, slice_get, Some, None, All, ⊤}
+-- What holds of the frames that a merge gives, whatever the captures, and of one capture alone.
+use Rattle.std.specs.Prelude.{◌≡◌, ◌<◌, ◌≤◌, ◌⊎◌, ℕ, ◌+◌, ◌==◌, List, [], ◌∷◌, ◌++◌, length, map, slice_get, Option, Some, None, All, ⊤}
 use Rattle.std.specs.List.{filter}
 use Rattle.mt_packet.specs.declared.frame.Stamped.{Stamped}
 use Rattle.mt_pcap.specs.declared.fault.PcapFault.{PcapFault}
 use Rattle.mt_pcap.specs.declared.merging.Merged.{Merged}
+use Rattle.mt_pcap.specs.declared.merging.MergedEnd.{MergedEnd}
+use Rattle.mt_pcap.specs.declared.merging.MergedEnd.TheVariants.{Done, Fault}
 use Rattle.mt_pcap.specs.Capture.{Capture}
-use Rattle.mt_pcap.specs.Merge.{Merge}
+use Rattle.mt_pcap.specs.Merge.{Merge, most_frames, merge_of}
 
 -- a merge that was made
 abbrev pub merge_seen : Merged → Merge
@@ -34,13 +36,13 @@ AreAll captures frames = (k : ℕ) (c : Capture) → slice_get captures k ≡ So
 
 -- A device's capture ends with a fault, all its records were given, and no lower device is so.
 pub record IsMet (captures : List Capture) (frames : List Stamped) (device : ℕ) (fault : PcapFault) : Type 0 where
-  pub place : ℕ
+  pub index : ℕ
   pub capture : Capture
-  pub device_is : device ≡ place + 1
-  pub there : slice_get captures place ≡ Some capture
+  pub device_is : device ≡ index + 1
+  pub there : slice_get captures index ≡ Some capture
   pub end_is : capture.end ≡ Some fault
   pub given : of_device device frames ≡ capture.records
-  pub lowest : (k : ℕ) (c : Capture) → k < place → slice_get captures k ≡ Some c → of_device (k + 1) frames ≡ c.records → c.end ≡ None
+  pub lowest : (k : ℕ) (c : Capture) → k < index → slice_get captures k ≡ Some c → of_device (k + 1) frames ≡ c.records → c.end ≡ None
 
 -- each element of a list stands so to all behind it
 abbrev pub Ascends : {X : Type 0} → (X → X → Type 0) → List X → Type 0
@@ -54,3 +56,20 @@ IsInOrder c = Ascends (λ r s. r.0 ≤ s.0) c.records
 -- a frame is earlier than another, or of equal time and of no higher device
 abbrev pub IsNoLater : Stamped → Stamped → Type 0
 IsNoLater f g = (f.stamp < g.stamp) ⊎ ((f.stamp ≡ g.stamp) × (f.device ≤ g.device))
+
+-- records as frames of device 1, numbered from a number on
+abbrev pub numbered_from : ℕ → List (ℕ × List ℕ) → List Stamped
+numbered_from number [] = []
+numbered_from number (r ∷ records) = record { stamp = r.0; device = 1; number = number; frame = r.1 } ∷ numbered_from (number + 1) records
+
+abbrev pub end_of : Option PcapFault → MergedEnd
+end_of None = Done
+end_of (Some fault) = Fault 1 fault
+
+-- a capture as the frames of one device
+abbrev pub alone : Capture → Merge
+alone c = record { frames = numbered_from 0 c.records; end = end_of c.end }
+
+-- a capture that is merged alone gives its records, whatever their times, and ends as it ends
+abbrev pub MergeOfOne : Type 0
+MergeOfOne = (c : Capture) → length c.records ≤ most_frames → merge_of (c ∷ []) ≡ alone c

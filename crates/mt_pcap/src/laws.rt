@@ -1,6 +1,6 @@
 //! The laws of the words that the contracts use.
 ghost use Rattle.mt_pcap.specs.Laws.{CaptureStands, CaptureStandsAlone, CaptureReadsBack, CaptureIsSound};
-ghost use Rattle.mt_pcap.specs.MergeLaws.{MergeOfOne};
+ghost use Rattle.mt_pcap.specs.MergeFacts.{MergeOfOne};
 
 /// All bytes stand, in the words of the file format, for the capture that is read of them.
 pub fn capture_stands()

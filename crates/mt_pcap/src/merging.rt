@@ -1,7 +1,8 @@
 //! Merging captures: the frames of several devices in one list, by the time of their capture.
 ghost use Rattle.std.specs.Prelude.{◌≡◌, ℕ, ◌<◌, ◌≤◌, ◌/◌, ◌^◌, [], length, map, position, slice_get, Some, None, All, MatchOption, IfOk, OnOk, nat_le, if◌then◌else◌};
 ghost use Rattle.mt_pcap.specs.Capture.{Capture};
-ghost use Rattle.mt_pcap.specs.Merge.{capture_seen, first_stamp, behind, is_at_fault, fault_met, next_place, taken, merge_of};
+ghost use Rattle.mt_pcap.specs.Capture.{capture_seen};
+ghost use Rattle.mt_pcap.specs.Merge.{first_stamp, behind, is_at_fault, fault_met, next_index, taken, merge_of};
 ghost use Rattle.mt_pcap.specs.MergeFacts.{merge_seen, AreNumbered, AreFronts, AreAll, IsMet, Ascends, IsInOrder, IsNoLater};
 ghost use Rattle.mt_pcap.specs.declared.merging.MergedEnd.TheVariants.{Done, Fault, Frames};
 ghost use Rattle.mt_pcap.specs.declared.fault.PcapFault.{PcapFault};
@@ -19,7 +20,7 @@ const MOST_FRAMES: usize = 16_777_216;
 /// The frames of several captures by the time of their capture.
 #[derive(Drop)]
 pub struct Merged {
-    /// Each frame with its time, the device of its capture, and its place in this list.
+    /// Each frame with its time, the device of its capture, and its index in this list.
     pub frames: Vec<Stamped>,
     /// Why there are no more.
     pub end: MergedEnd,
@@ -93,8 +94,8 @@ impl Queue {
     }
 }
 
-/// The place of the first capture that is at its fault.
-fn fault_place(queues: &[Queue]) -> Option<usize>
+/// The index of the first capture that is at its fault.
+fn fault_index(queues: &[Queue]) -> Option<usize>
     ensures { result ≡ position is_at_fault queues.now }
 {
     queues.iter().position(|queue| queue.is_at_fault())
@@ -106,51 +107,51 @@ fn fault_met(queues: &[Queue]) -> Option<(u32, PcapFault)>
     requires { length queues.now ≤ 32 }
     ensures { result ≡ fault_met queues.now }
 {
-    let place = fault_place(queues)?;
-    let fault = queues[place].end()?;
-    Some((place as u32 + 1, fault))
+    let index = fault_index(queues)?;
+    let fault = queues[index].end()?;
+    Some((index as u32 + 1, fault))
 }
 
-/// The best place so far and its time, or this place and time where there is none or it is earlier.
-fn sooner(best: Option<(usize, u64)>, place: usize, stamp: u64) -> (usize, u64)
+/// The best index so far and its time, or this index and time where there is none or it is earlier.
+fn sooner(best: Option<(usize, u64)>, index: usize, stamp: u64) -> (usize, u64)
     ensures { MatchOption best
-        (result ≡ (place, stamp))
-        (λ b. result ≡ (if nat_le b.1 stamp then b else (place, stamp))) }
+        (result ≡ (index, stamp))
+        (λ b. result ≡ (if nat_le b.1 stamp then b else (index, stamp))) }
 {
     match best {
         Some((earlier, least)) if least <= stamp => (earlier, least),
-        _ => (place, stamp),
+        _ => (index, stamp),
     }
 }
 
-/// The place of the capture whose first record comes next: the one of least time, and of equal times
+/// The index of the capture whose first record comes next: the one of least time, and of equal times
 /// the one of the lowest device.
-fn next_place(queues: &[Queue]) -> Option<usize>
-    ensures { result ≡ next_place queues.now }
+fn next_index(queues: &[Queue]) -> Option<usize>
+    ensures { result ≡ next_index queues.now }
 {
     let mut best = None;
-    for (place, queue) in queues.iter().enumerate() {
+    for (index, queue) in queues.iter().enumerate() {
         if let Some(stamp) = queue.first_stamp() {
-            best = Some(sooner(best, place, stamp));
+            best = Some(sooner(best, index, stamp));
         }
     }
     match best {
-        Some((place, _)) => Some(place),
+        Some((index, _)) => Some(index),
         None => None,
     }
 }
 
 /// Takes the record that comes next, with its device.
-#[tactic(auto, unfolding(crate::specs::Merge::taken, crate::specs::Merge::next_place))]
+#[tactic(auto, unfolding(crate::specs::Merge::taken, crate::specs::Merge::next_index))]
 fn take_next(queues: &mut [Queue]) -> Option<(u32, u64, Frame)>
     requires { length queues.old ≤ 32 }
     ensures { MatchOption result
         (taken queues.old ≡ None)
         (λ x. taken queues.old ≡ Some (record { device = x.0; given = (x.1, x.2); left = queues.new })) }
 {
-    let place = next_place(queues)?;
-    let (stamp, frame) = queues[place].take_first()?;
-    Some((place as u32 + 1, stamp, frame))
+    let index = next_index(queues)?;
+    let (stamp, frame) = queues[index].take_first()?;
+    Some((index as u32 + 1, stamp, frame))
 }
 
 /// Moves the frames of the queues behind those that are there, and says why there are no more.

@@ -2,7 +2,7 @@
 ghost use Rattle.std.specs.Prelude.{◌≡◌, ℕ, ◌<◌, ◌≤◌, ◌/◌, ◌*◌, ◌+◌, ◌^◌, length, All, IfOk, MatchResult, Ok, Err, drop, nat_le, nat_lt, ◌||◌};
 ghost use Rattle.mt_pcap.specs.Format.{number, nanoseconds_in, second, longest};
 ghost use Rattle.mt_pcap.specs.Capture.{capture_of, header_of, record_at, all_records};
-ghost use Rattle.mt_pcap.specs.Facts.{IsOfBytes};
+ghost use Rattle.mt_pcap.specs.Capture.{IsOfBytes};
 
 use crate::fault::PcapFault;
 use crate::form::{Form, LONGEST, SECOND, form_of};

@@ -1,6 +1,6 @@
 use Rattle.std.proofs.Common.{◌<◌, ◌≤◌, ◌/◌, ◌^◌, length, map}
 use Rattle.std.proofs.lemmas.Result.{IfOk-weaker}
-use Rattle.mt_pcap.specs.Merge.{capture_seen}
+use Rattle.mt_pcap.specs.Capture.{capture_seen}
 use Rattle.mt_pcap.specs.MergeFacts.{merge_seen}
 use Rattle.mt_pcap.proofs.MergeLaws.{few, numbers, devices_of, fronts, done_stands, fault_stands, limit_stands, in_order, each}
 use Rattle.mt_pcap.proofs.merging.merge_whole.Goals as goal

@@ -1,5 +1,5 @@
-//! Merges of captures, with each row worked by hand from the rules.
-use super::*;
+//! Merges of captures, each row worked by hand from the rules.
+use crate::{Merged, MergedEnd, PcapFault, WholeCapture, header, merge_whole, record_head, whole};
 use mt_packet::Frame;
 use std::alloc::{AllocError, Global};
 use std::test::*;
@@ -87,14 +87,32 @@ fn captures_are_merged(rt: HostRuntime) -> Result<(), Fail> {
         let merged = merge_whole(rt.alloc(), captures)?;
         assert_eq!(rt; told(rt.alloc(), &merged)?.as_str(), want, "at {words}");
     }
+    // No capture at all.
+    let merged = merge_whole(rt.alloc(), Vec::new(rt.alloc()))?;
+    assert_eq!(rt; told(rt.alloc(), &merged)?.as_str(), "Done");
+    assert_eq!(rt;
+        one_that_was_read(rt.alloc())?.as_str(),
+        "0/1:7a 1/1:3b 2/1:5c Fault 1 Torn 75"
+    );
     Ok(())
 }
 
-#[test]
-fn no_capture_at_all(rt: HostRuntime) -> Result<(), Fail> {
-    let merged = merge_whole(rt.alloc(), Vec::new(rt.alloc()))?;
-    assert_eq!(rt; told(rt.alloc(), &merged)?.as_str(), "Done");
-    Ok(())
+/// A capture that was read, merged alone: its records, in their order.
+fn one_that_was_read(alloc: Global) -> Result<String, Fail> {
+    let mut text = Vec::new(alloc);
+    text.extend_from_slice(&header())?;
+    for (stamp, byte) in [(7, b'a'), (3, b'b'), (5, b'c')] {
+        text.extend_from_slice(&record_head(stamp, 1))?;
+        text.push(byte)?;
+    }
+    text.extend_from_slice(&record_head(9, 2))?;
+    let mut captures = Vec::new(alloc);
+    captures.push(whole(alloc, &text)?)?;
+    if captures.len() > 32 {
+        return Err("one capture".into());
+    }
+    let merged = merge_whole(alloc, captures)?;
+    Ok(told(alloc, &merged)?)
 }
 
 /// 32 captures, of the last device's first.
@@ -115,26 +133,5 @@ fn as_many_devices_as_there_may_be(rt: HostRuntime) -> Result<(), Fail> {
         device = device.saturating_sub(1);
     }
     assert!(rt; merged.end == MergedEnd::Done);
-    Ok(())
-}
-
-/// A capture that was read, merged alone: its records, in their order.
-#[test]
-fn one_that_was_read(rt: HostRuntime) -> Result<(), Fail> {
-    let mut text = Vec::new(rt.alloc());
-    text.extend_from_slice(&header())?;
-    for (stamp, byte) in [(7, b'a'), (3, b'b'), (5, b'c')] {
-        text.extend_from_slice(&record_head(stamp, 1))?;
-        text.push(byte)?;
-    }
-    text.extend_from_slice(&record_head(9, 2))?;
-    let mut captures = Vec::new(rt.alloc());
-    captures.push(whole(rt.alloc(), &text)?)?;
-    assert!(rt; captures.len() <= 32);
-    let merged = merge_whole(rt.alloc(), captures)?;
-    assert_eq!(rt;
-        told(rt.alloc(), &merged)?.as_str(),
-        "0/1:7a 1/1:3b 2/1:5c Fault 1 Torn 75"
-    );
     Ok(())
 }
