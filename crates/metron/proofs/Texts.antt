@@ -14,10 +14,9 @@ use Rattle.mt_packet.specs.declared.frame.Stamped.{Stamped}
 use Rattle.mt_pcap.specs.Text.{header_text, record_text, capture_text}
 use Rattle.mt_elements.specs.ChainState.{ChainState}
 use Rattle.mt_chain.specs.Run.{TablesState, Run, run_packet}
-use Rattle.mt_chain.specs.Sequence.{Runs, first_tables, run_each, run_all, all_taken}
+use Rattle.mt_chain.specs.Sequence.{Runs, OneBehind, behind, first_tables, run_each, run_all, all_taken}
 use Rattle.mt_chain.specs.declared.run.Fate.{Fate}
 use Rattle.mt_chain.specs.declared.run.Fate.TheVariants.{Sent}
-use Rattle.mt_chain.proofs.Sequence.{behind, one_more}
 use Rattle.metron.specs.Fates.{packet_of, packets_from, packets_of, records_sent, fate_text, device_text}
 use Rattle.metron.specs.Serving.{numbers, HasServed, HasServedSome, HasServedOne, HasBrokenOff}
 
@@ -88,12 +87,12 @@ module _ (device : ℕ) (chain : ChainState) where
   pub only_header : (records : List (ℕ × List ℕ)) (before after : Option (List ℕ)) (order : List ℕ) → order ≡ [] → Gains before header_text after → HasServedSome device chain records before after order
   only_header records before after order none gained = broken_at_header records before after order none (gains_front before after header_text gained)
 
-  module _ (tables : TablesState) (served : List (ℕ × List ℕ)) (arrival : ℕ × List ℕ) (before middle : Option (List ℕ)) (order : List ℕ) (at : IsAt device chain tables served before middle order) where
+  module _ (tables : TablesState) (served : List (ℕ × List ℕ)) (arrival : ℕ × List ℕ) (before middle : Option (List ℕ)) (order : List ℕ) (at : IsAt device chain tables served before middle order) (one_behind : OneBehind) where
     runs_more : (run : Run) → run_packet chain tables (packet_of (length served) arrival) [] ≡ Some run
         → run_each chain (first_tables chain) [] (packets_of (served ++ arrival ∷ [])) ≡ Some (behind (record { fates = at.fates; tables = tables; picks = [] }) run)
     runs_more run is =
         ap (run_each chain (first_tables chain) []) (packets-push 0 served arrival ∙ ap (λ n. packets_of served ++ packet_of n arrival ∷ []) (omega arith))
-        ∙ one_more chain (first_tables chain) [] (packets_of served) (packet_of (length served) arrival)
+        ∙ one_behind chain (first_tables chain) [] (packets_of served) (packet_of (length served) arrival)
         ∙ ap (option_and_then (λ so_far. option_map (behind so_far) (run_packet chain so_far.tables (packet_of (length served) arrival) so_far.picks))) at.runs
         ∙ ap (option_map (behind (record { fates = at.fates; tables = tables; picks = [] }))) is
 

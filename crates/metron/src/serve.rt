@@ -9,6 +9,7 @@ ghost use Rattle.metron.specs.Fates.{records_sent};
 ghost use Rattle.metron.specs.Serving.{ServeFault, HasServed, HasServedSome, HasServedOne, HasBrokenOff};
 
 use crate::{Fault, FileId};
+use mt_chain::laws::{device_1_has_an_entry, one_packet_behind_others};
 use mt_chain::{Fate, Tables, run_one};
 use mt_elements::Chain;
 use mt_io::{Files, write_all};
@@ -47,6 +48,8 @@ pub(crate) fn serve<F: Files>(
         Err(_) => return Err(Fault::Write(FileId::Output(device))),
     }
     chain.is_accepted();
+    device_1_has_an_entry();
+    one_packet_behind_others();
     let mut tables = match Tables::new(alloc, chain) {
         Ok(tables) => tables,
         Err(_) => return Err(Fault::Memory),

@@ -30,7 +30,7 @@ at_end (z ∷ xs) x = at_end xs x
 -- ---- one more line
 
 module _ (address : ℕ) (done : List Hop) (hop : Hop) where
-  -- what was found stays, where the line is no better
+  -- what was found stays, where the entry is no better
   kept : (found : Hop) (index : ℕ) → IsLongest address done index found → (is_in address hop ≡ true → hop.length ≤ found.length) → IsLongest address (done ++ hop ∷ []) index found
   kept found index h shorter = record {
     stands = still_there done hop found index h.stands;
@@ -45,7 +45,7 @@ module _ (address : ℕ) (done : List Hop) (hop : Hop) where
     ];
   }
 
-  -- the line is found, where each before it is shorter
+  -- the entry is found, where each before it is shorter
   replaced : is_in address hop ≡ true → ((i : ℕ) (other : Hop) → slice_get done i ≡ Some other → is_in address other ≡ true → other.length < hop.length) → IsLongest address (done ++ hop ∷ []) (length done) hop
   replaced holds shorter = record {
     stands = at_end done hop;
@@ -60,7 +60,7 @@ module _ (address : ℕ) (done : List Hop) (hop : Hop) where
     ];
   }
 
-  -- the line has not the address
+  -- the entry has not the address
   passed_over : is_in address hop ≡ false → (found : Option Hop) → IsRoute address done found → IsRoute address (done ++ hop ∷ []) found
   passed_over out None nowhere = λ i other is. elim (last_or_before done hop other i is) [
     | inl before ↦ nowhere i other before
@@ -98,7 +98,7 @@ all_lines address done (hop ∷ rest) found so_far =
     subst (λ lines. IsRoute address lines (fold (better address) (better address found hop) rest)) (append_assoc done (hop ∷ []) rest)
     (all_lines address (done ++ hop ∷ []) rest (better address found hop) (one_more address done hop found so_far))
 
--- the line that is found is the first of those with the longest prefix
+-- the entry that is found is the first of those with the longest prefix
 pub is_route : (address : ℕ) (hops : List Hop) → IsRoute address hops (route_of address hops)
 unfolding route_of
 is_route address hops = all_lines address [] hops None (λ i other is. absurd (none-some other is))

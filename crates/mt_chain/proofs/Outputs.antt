@@ -25,7 +25,7 @@ action_within header (rule ∷ rules) n is = by_test (holds_on header rule.patte
         let most = le-max_right (action_outs rule.action) (filter_outs rules) in
         omega (arith, later, most)
 
--- each line of a route table names one of its outputs
+-- each entry of a route table names one of its outputs
 pub hop_within : (hops : List Hop) (i : ℕ) (hop : Hop) → slice_get hops i ≡ Some hop → hop.out < route_outs hops
 unfolding route_outs
 hop_within [] i hop is = absurd (none-some hop is)

@@ -91,7 +91,7 @@ abbrev pub towards : PacketState → Option ℕ → PacketState
 towards packet (Some gateway) = with_field packet of.Annotation gateway
 towards packet None = packet
 
--- the line of a route table is followed
+-- the entry of a route table is followed
 abbrev pub by_hop : PacketState → Option Hop → Option (PacketState × Exit)
 by_hop packet (Some hop) = leaves (towards packet hop.gateway) hop.out
 by_hop packet None = drops packet NoRoute

@@ -20,13 +20,13 @@ action_of word =
 
 abbrev pub if_read : Result Pattern ℕ → Option Pattern
 if_read (Ok pattern) = Some pattern
-if_read (Err place) = None
+if_read (Err at) = None
 
 -- the pattern that an argument is
 unfoldable pub ip_pattern_of : List ℕ → Option Pattern
 ip_pattern_of argument = if_read (parse_of argument)
 
--- an action up to a place and a pattern behind it
+-- an action up to an index and a pattern behind it
 unfoldable pub rule_at : List ℕ → Option ℕ → Option Rule
 rule_at argument None = None
 rule_at argument (Some i) = do

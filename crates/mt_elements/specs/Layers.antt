@@ -84,7 +84,7 @@ unfoldable pub filter_outs : List Rule → ℕ
 filter_outs [] = 0
 filter_outs (rule ∷ rules) = max (action_outs rule.action) (filter_outs rules)
 
--- one more than the greatest output that the lines of a route table name
+-- one more than the greatest output that the entries of a route table name
 unfoldable pub route_outs : List Hop → ℕ
 route_outs [] = 0
 route_outs (hop ∷ hops) = max (hop.out + 1) (route_outs hops)

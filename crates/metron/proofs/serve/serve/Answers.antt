@@ -4,7 +4,6 @@ use Rattle.mt_io.specs.Files.{Gains}
 use Rattle.mt_io.specs.Copy.{GainsFront}
 use Rattle.mt_io.specs.Laws.{same_but_twice, same_twice, never_fell_twice}
 use Rattle.mt_chain.specs.Run.{IsThere, entry_of}
-use Rattle.mt_chain.proofs.Entries.{has_entry}
 use Rattle.metron.proofs.Taken.{with_rest, with_one, at_end}
 use Rattle.metron.proofs.Texts.{counted_more, begun, broken_at_header, only_header, stopped_at, one_served, broken_at, all_served}
 use Rattle.metron.proofs.serve.serve.Goals as goal
@@ -37,11 +36,11 @@ returns-in-Err-push-clause-err g c =
     c.in-Err-push.ensures.items c.loop-stamp.invariant.served
 
 pub serve_one-requires-clause-known : goal.serve_one-requires-clause-known
-serve_one-requires-clause-known g c = subst (λ device. IsThere (entry_of c.args.chain.now device)) (sym (ap (λ p. p.device) c.new-packet.ensures)) (has_entry c.args.chain.now c.is_accepted.ensures.0 c.is_accepted.ensures.1)
+serve_one-requires-clause-known g c = subst (λ device. IsThere (entry_of c.args.chain.now device)) (sym (ap (λ p. p.device) c.new-packet.ensures)) (c.device_1_has_an_entry.ensures c.args.chain.now c.is_accepted.ensures)
 
 pub returns-in-Err-serve_one-clause-err : goal.returns-in-Err-serve_one-clause-err
 returns-in-Err-serve_one-clause-err g c =
-    broken_at c.args.device c.args.chain.now c.loop-stamp.tables c.loop-stamp.yielded (c.in-Some.stamp, c.in-Some.frame) _ _ c.loop-stamp.order.items c.loop-stamp.invariant.served
+    broken_at c.args.device c.args.chain.now c.loop-stamp.tables c.loop-stamp.yielded (c.in-Some.stamp, c.in-Some.frame) _ _ c.loop-stamp.order.items c.loop-stamp.invariant.served c.one_packet_behind_others.ensures
     c.args.records.items (into_iter_items c.next.new.self) c.new-packet.result _ _ c.loop-stamp.number c.loop-stamp.invariant.counted c.in-Ok-push.ensures.items
     (with_one c.args.records.items c.loop-stamp.yielded c.into_iter-stamp-iterator.result c.loop-stamp.stamp-iterator c.next.new.self c.into_iter-stamp-iterator.ensures.into_iter_gives.0 c.loop-stamp.yielded_by (c.in-Some.stamp, c.in-Some.frame) c.in-Some.ensures.steps)
     c.new-packet.ensures c.in-Err-serve_one.ensures.err
@@ -49,7 +48,7 @@ returns-in-Err-serve_one-clause-err g c =
 pub loop-stamp-preserved : goal.loop-stamp-preserved
 loop-stamp-preserved g c = record {
   counted = counted_more c.loop-stamp.number c.loop-stamp.yielded (c.in-Some.stamp, c.in-Some.frame) c.loop-stamp.invariant.counted;
-  served = one_served c.args.device c.args.chain.now c.loop-stamp.tables c.loop-stamp.yielded (c.in-Some.stamp, c.in-Some.frame) _ _ c.loop-stamp.order.items c.loop-stamp.invariant.served
+  served = one_served c.args.device c.args.chain.now c.loop-stamp.tables c.loop-stamp.yielded (c.in-Some.stamp, c.in-Some.frame) _ _ c.loop-stamp.order.items c.loop-stamp.invariant.served c.one_packet_behind_others.ensures
       c.serve_one.new.tables c.new-packet.result _ _ c.loop-stamp.number c.loop-stamp.invariant.counted c.in-Ok-push.ensures.items c.new-packet.ensures c.in-Ok-serve_one.ensures.ok;
   other_files = same_but_twice _ _ _ _ c.loop-stamp.invariant.other_files c.serve_one.ensures.other_files;
   held = same_twice _ _ _ c.loop-stamp.invariant.held c.serve_one.ensures.held;
