@@ -1,0 +1,6 @@
+pub mod Moved
+pub mod Named
+pub mod Places
+pub mod Rows
+pub mod Standing
+pub mod Together

@@ -1,0 +1,4 @@
+pub mod Ledger
+pub mod Pools
+pub mod Ports
+pub mod Whole
