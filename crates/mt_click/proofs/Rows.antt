@@ -1,7 +1,6 @@
 -- Worked chains: what short texts build, computed from their bytes.
-use Rattle.std.proofs.Common.{◌≡◌, ℕ, List, [], ◌∷◌, Ok, refl}
+use Rattle.std.proofs.Common.{◌≡◌, [], ◌∷◌, Ok, refl}
 use Rattle.std.specs.Prelude.{codes, ◌++◌}
-use Rattle.mt_graph.specs.declared.Element.{Element}
 use Rattle.mt_click.specs.declared.action.CreatedItem.TheVariants as created_items
 use Rattle.mt_click.specs.declared.action.Side.TheVariants as sides
 use Rattle.mt_click.specs.declared.connections.Port.TheVariants as port_kinds

@@ -143,7 +143,7 @@ whole_endpoint names s class next followed e = written names class (codes "input
 unfoldable pub endpoint_actions : Names → Scope → Bool → Bool → Endpoint → List Action
 endpoint_actions names s next followed e = whole_endpoint names s (class_of_item names s e.item) next followed e
 
--- where what a name stands for is made
+-- where what a name stands for is created
 abbrev pub offset_at : List Entry → ℕ → Option ℕ → ℕ
 offset_at entries at None = at
 offset_at entries at (Some k) = elim (slice_get entries k) [ None ↦ at | Some e ↦ e.word.from ]

@@ -42,7 +42,7 @@ unfoldable pub class_declared : List ℕ → Declaration → Option (ClassTree �
 class_declared text d = class_under text d.classes (spelling text d.created.class)
 
 pub data Act : Type 0 where
-  -- an element is made, with the name under which it is declared
+  -- an element is created, with the name under which it is declared
   element : Option Word → Use → Act
   -- a class, before which some stand, is used
   expand : ClassTree → List ClassTree → Option Word → Use → Act
@@ -99,7 +99,7 @@ leaving _ _ port = []
 unfoldable pub end_acts : Sight → Bool → Bool → EndpointTree → List Act
 end_acts s before behind e = coming before (item_class s e.item) e.input ++ (item_acts s e.item ++ leaving behind (item_class s e.item) e.output)
 
--- What an end stands for, with a port: what is made at the byte of the name's declaration, or at the
+-- What an end stands for, with a port: what is created at the byte of the name's declaration, or at the
 -- class. In a body `input` is the border where a connection begins, `output` where it ends, and neither is
 -- an end elsewhere.
 abbrev pub lone_side : Token → ℕ → Option Declaration → Option Side

@@ -24,7 +24,7 @@ item_from found (m ∷ ms) enclosing offset = item_from (if is_created enclosing
 abbrev pub item_created : List Created → ℕ → ℕ → Option CreatedItem
 item_created created enclosing offset = item_from None created enclosing offset
 
--- the port at which a connection leaves what is made
+-- the port at which a connection leaves what is created
 abbrev pub left_at : ℕ → Option CreatedItem → Option Port
 left_at port None = None
 left_at port (Some (created_items.Element n)) = Some (port_kinds.Output n port)
@@ -68,7 +68,7 @@ IsElsewhere a b = a.enclosing ≡ b.enclosing → a.offset ≡ b.offset → ⊥
 abbrev pub AreCreatedOnce : List Created → Type 0
 AreCreatedOnce created = AllPairs IsElsewhere created
 
--- A connection has both its ends: what it leaves and what it comes to are among what is made.
+-- A connection has both its ends: what it leaves and what it comes to are among what is created.
 pub record HasEnds (created : List Created) (j : Connected) : Type 0 where
   pub source : Port
   pub leaves : source_of created j.enclosing j.from ≡ Some source

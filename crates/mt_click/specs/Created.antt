@@ -1,4 +1,4 @@
--- What is made in each use, as the code keeps it.
+-- What is created in each use, as the code keeps it.
 use Rattle.std.specs.Prelude.{◌≡◌, ℕ, Bool, ◌&&◌, nat_eq}
 use Rattle.indexmap.specs.IndexMap.{get_by}
 use Rattle.mt_click.specs.declared.connections.ItemTable.{ItemTable}

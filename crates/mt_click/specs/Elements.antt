@@ -1,4 +1,4 @@
--- Elements with their arguments, and what is made of a configuration so far.
+-- Elements with their arguments, and what is created of a configuration so far.
 use Rattle.std.specs.Prelude.{ℕ, ◌+◌, List, [], ◌∷◌, ◌++◌, length, Option, Some, None}
 use Rattle.std.specs.List.{flat_map}
 use Rattle.std.specs.Fmt.{decimal}
@@ -49,7 +49,7 @@ pub record Context : Type 0 where
   pub bindings : List Binding
   pub enclosing : ℕ
 
--- What is there: the elements, what is made in each use and where, and the connections of each use.
+-- What is there: the elements, what is created in each use and where, and the connections of each use.
 pub record State : Type 0 where
   pub elements : List Element
   pub created : List Created

@@ -1,4 +1,4 @@
--- What a configuration expands to: a relation between its trees and what is made.
+-- What a configuration expands to: a relation between its trees and what is created.
 use Rattle.std.specs.Prelude.{◌≡◌, ℕ, ◌+◌, ◌<◌, List, [], ◌∷◌, ◌++◌, length, drop, Option, Some, None, IsTrue, Contains, if◌then◌else◌}
 use Rattle.std.specs.List.{AllByRecursion, AllPairs}
 use Rattle.mt_syntax.specs.declared.token.Token.{Token}
@@ -68,7 +68,7 @@ bindings_of text _ _ = []
 abbrev pub AreKnown : List ℕ → List Binding → Use → Type 0
 AreKnown text bindings u = unknown_in bindings (shown (inner text u.arguments)) ≡ None
 
--- in the use of a class, which begins where so much is made
+-- in the use of a class, which begins where so much is created
 abbrev pub context_inside : List ℕ → Context → State → ClassTree → Use → Context
 context_inside text p s c u = record {
   numbers = p.numbers ++ length s.elements ∷ [];
@@ -79,7 +79,7 @@ context_inside text p s c u = record {
 -- Acts in a context, where something is there, build what is there behind them.
 pub data Builds : List ℕ → Context → State → List Act → State → Type 0 where
   done : (text : List ℕ) (p : Context) (s : State) → Builds text p s [] s
-  -- an element is made, of which there are at most 512
+  -- an element is created, of which there are at most 512
   makes : (text : List ℕ) (p : Context) (s t : State) (name : Option Word) (u : Use) (acts : List Act) → length s.elements < 512 → AreKnown text p.bindings u → Builds text p (with_element text p s name u) acts t → Builds text p s (element name u ∷ acts) t
   -- the body of a class is built with an argument for each parameter
   expands : (text : List ℕ) (p : Context) (s m t : State) (c : ClassTree) (before : List ClassTree) (name : Option Word) (u : Use) (acts : List Act) → AreKnown text p.bindings u → length (arguments_in text p.bindings u) ≡ length (parameters_of c) → Builds text (context_inside text p s c u) (with_use p s (own_offset name u)) (body_acts (body_sight text before c) c.body) m → Builds text p m acts t → Builds text p s (expand c before name u ∷ acts) t

@@ -106,7 +106,7 @@ actions_of_next s earlier e [] = []
 actions_of_next s earlier e (next ∷ more) =
     actions_of_endpoint s earlier true (has_next more) next.1 ++ (connecting_of next.0.from (side_left s e) (side_reached s next.1) ++ actions_of_next s (earlier ++ declared_item s.classes next.1.item) next.1 more)
 
--- the names before one `::`: first each is declared, then they are made
+-- the names before one `::`: first each is declared, then they are created
 unfoldable pub names_of_group : Sight → List Declaration → UseTree → List (Token × Token) → List Action
 names_of_group s earlier u [] = []
 names_of_group s earlier u (next ∷ more) = naming_of s earlier next.1 ++ names_of_group s (earlier ++ declaration s.classes u next.1 ∷ []) u more
