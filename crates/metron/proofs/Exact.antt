@@ -20,7 +20,7 @@ use Rattle.metron.specs.declared.outcome.Fault.TheVariants.{Done, UsageWord, Unb
 abbrev Answers : Option Fault → Fault → Type 0 → Type 0
 Answers answer fault interrupted = IfSome answer (λ d. (fault ≡ d) ⊎ interrupted)
 
-interrupts : (answer : Option Fault) (fault : Fault) (I : Type 0) → I → Answers answer fault I
+pub interrupts : (answer : Option Fault) (fault : Fault) (I : Type 0) → I → Answers answer fault I
 interrupts None fault I i = tt
 interrupts (Some d) fault I i = inr i
 
@@ -97,7 +97,7 @@ module _ (J : Fault → Type 0) (memory : J Memory) where
 -- ---- the whole
 
 -- what is known of a command holds of the words
-of_command : (words : List (List ℕ)) (old new : State) (fault : Fault) (c : Words) → command_of words ≡ Some c → IsExact (Some c) old new fault → IsExact (command_of words) old new fault
+pub of_command : (words : List (List ℕ)) (old new : State) (fault : Fault) (c : Words) → command_of words ≡ Some c → IsExact (Some c) old new fault → IsExact (command_of words) old new fault
 of_command words old new fault c is exact_here = subst (λ (o : Option Words). IsExact o old new fault) (sym is) exact_here
 
 pub exact : (words : List (List ℕ)) (old new : State) (order : List ℕ) (fault : Fault) → IsRun words old new order fault → IsExact (command_of words) old new fault
@@ -142,7 +142,7 @@ no_interruption : (command : Option Words) (old new : State) (fault : Fault) →
 no_interruption None old new fault none i = absurd i
 no_interruption (Some c) old new fault none i = only_memory old new c fault none i
 
-answered : (command : Option Words) (old new : State) (fault : Fault) (answer : Option Fault) (d : Fault) → NoneFailed old new → answer ≡ Some d
+pub answered : (command : Option Words) (old new : State) (fault : Fault) (answer : Option Fault) (d : Fault) → NoneFailed old new → answer ≡ Some d
     → IfSome answer (λ a. (fault ≡ a) ⊎ IsSomeAnd command (IsInterruption old new fault)) → (fault ≡ d) ⊎ (fault ≡ Memory)
 answered command old new fault None d none is given = cc
 answered command old new fault (Some a) d none is given = let same : a ≡ d = cc in ⊎_elim (λ e. inl (e ∙ same)) (λ i. inr (no_interruption command old new fault none i)) given

@@ -3,3 +3,4 @@ mod Names
 mod Texts
 mod Runs
 mod Exact
+mod Finished

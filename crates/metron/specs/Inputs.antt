@@ -6,7 +6,6 @@ use Rattle.mt_elements.specs.ChainState.{ChainState}
 use Rattle.mt_elements.specs.ShapeChains.{chain_of}
 use Rattle.mt_pcap.specs.declared.fault.PcapFault.{PcapFault}
 use Rattle.mt_pcap.specs.declared.fault.PcapFault.TheVariants.{NotPcap, WrongLink}
-use Rattle.mt_pcap.specs.declared.reading.WholeCapture.{WholeCapture}
 use Rattle.mt_pcap.specs.Capture as captures
 use Rattle.metron.specs.declared.outcome.FileId.TheVariants as file
 use Rattle.metron.specs.declared.outcome.Fault.{Fault}
@@ -44,9 +43,6 @@ ScriptFault held before after Memory = ⊤
 ScriptFault held before after fault = ⊥
 
 -- ---- the capture
-
-abbrev pub capture_seen : WholeCapture → captures.Capture
-capture_seen c = record { records = c.records.items; end = c.end }
 
 -- the most bytes that a capture has
 abbrev pub capture_limit : ℕ

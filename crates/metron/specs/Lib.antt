@@ -2,6 +2,7 @@ pub mod Outcome
 pub mod Order
 pub mod Command
 pub mod Fates
+pub mod Finish
 pub mod Inputs
 pub mod Serving
 pub mod Causes

@@ -1,7 +1,8 @@
 //! What the files of a command hold.
 ghost use Rattle.std.specs.Prelude.{◌≡◌, ◌<◌, ◌≤◌, ◌*◌, ◌/◌, ◌^◌, length, All, IfOk, IfErr, OnOk, Some};
 ghost use Rattle.mt_io.specs.Files.{IsSame, IsSameBut, NeverFell};
-ghost use Rattle.metron.specs.Inputs.{IsChainRead, ChainFault, IsScriptRead, ScriptFault, IsCaptureRead, CaptureFault, capture_seen, is_no_header};
+ghost use Rattle.mt_pcap.specs.Merge.{capture_seen};
+ghost use Rattle.metron.specs.Inputs.{IsChainRead, ChainFault, IsScriptRead, ScriptFault, IsCaptureRead, CaptureFault, is_no_header};
 
 use crate::{Fault, FileId};
 use mt_elements::{Chain, small};

@@ -9,9 +9,9 @@ mod serve;
 #[cfg(test)]
 mod tests;
 
-use mt_io::{Buffered, RealFiles};
+use mt_io::RealFiles;
 pub use outcome::{Fault, FileId, Outcome};
-pub use run::metron;
+pub use run::{metron, serve_command};
 use std::alloc::Global;
 use std::env::Env;
 use std::io::ErrorKind;
@@ -24,9 +24,6 @@ const MISUSED: u8 = 1;
 /// The status of a run for which there is no memory.
 const NO_MEMORY: u8 = 7;
 
-/// The status of a run of which a write failed.
-const NOT_WRITTEN: u8 = 6;
-
 /// Ends with the status of the run. It prints nothing.
 fn main(rt: HostRuntime) -> ExitCode {
     let words = match words(&rt, rt.alloc()) {
@@ -34,12 +31,9 @@ fn main(rt: HostRuntime) -> ExitCode {
         Err(error) if error.kind() == ErrorKind::InvalidData => return ExitCode::from(MISUSED),
         Err(_) => return ExitCode::from(NO_MEMORY),
     };
-    let mut files = Buffered::new(rt.alloc(), RealFiles::new(&rt, rt.alloc()));
-    let outcome = metron(rt.alloc(), &words, &mut files);
-    match files.finish() {
-        Ok(()) => ExitCode::from(outcome.status),
-        Err(_) => ExitCode::from(NOT_WRITTEN),
-    }
+    let files = RealFiles::new(&rt, rt.alloc());
+    let (outcome, _) = serve_command(rt.alloc(), &words, files);
+    ExitCode::from(outcome.status)
 }
 
 /// The words behind the program's own name.

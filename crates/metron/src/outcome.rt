@@ -44,8 +44,8 @@ impl Fault {
         match self {
             Fault::Done => 0,
             Fault::UsageWord(_) => 1,
-            Fault::Unbuilt(FileId::Chain) => 2,
-            Fault::Unbuilt(FileId::Script) => 3,
+            Fault::Unbuilt(FileId::Chain) | Fault::TooLong(FileId::Chain) => 2,
+            Fault::Unbuilt(FileId::Script) | Fault::TooLong(FileId::Script) => 3,
             Fault::Read(_) => 4,
             Fault::Unbuilt(_) | Fault::TooLong(_) | Fault::Capture(_, _) => 5,
             Fault::Write(_) => 6,

@@ -23,6 +23,10 @@ abbrev pub behind : Option (List ℕ) → List ℕ → Option (List ℕ)
 behind None bytes = None
 behind (Some written) bytes = Some (written ++ bytes)
 
+-- what is told as written of each name are the bytes that are written and some that are pending
+abbrev pub HasPending : (List ℕ → Option (List ℕ)) → (List ℕ → Option (List ℕ)) → Type 0
+HasPending told written = (name : List ℕ) → (pending : List ℕ) × (told name ≡ behind (written name) pending)
+
 -- the buffer at a place has this name
 abbrev pub StandsAt : List Pending → ℕ → List ℕ → Type 0
 StandsAt buffers place name = (b : Pending) × (slice_get buffers place ≡ Some b) × (b.name ≡ name)

@@ -73,8 +73,9 @@ impl Buffer {
         ensures left { self.new ≡ record { name = self.old.name; bytes = drop result self.old.bytes } }
     {
         let count = buf.len().min(self.to - self.from);
-        buf[..count].copy_from_slice(&self.bytes[self.from..self.from + count]);
-        self.from += count;
+        let end = self.from + count;
+        buf[..count].copy_from_slice(&self.bytes[self.from..end]);
+        self.from = end;
         count
     }
 

@@ -1,6 +1,7 @@
 //! Files that are read and written through buffers.
 ghost use Rattle.std.specs.Prelude.{◌≡◌, ℕ, List, OnOk, OnErr, IsSomeAnd, option_map};
 ghost use Rattle.mt_io.specs.Files.{Rose, IsSame, NeverFell};
+ghost use Rattle.mt_io.specs.Buffers.{HasPending};
 
 use crate::buffer::{Buffers, ROOM};
 use crate::{Failed, Files};
@@ -65,7 +66,10 @@ impl<F: Files + Drop> Buffered<F> {
 
     /// The inner files, without what is pending.
     pub fn into_inner(self) -> F
-        ensures { result ≡ inner_of self }
+        ensures inner { result ≡ inner_of self }
+        ensures written { HasPending (⟦<Buffered<F> as Files>⟧.written self) (F.written result) }
+        ensures read_faults { IsSame (⟦<Buffered<F> as Files>⟧.read_faults self) (F.read_faults result) }
+        ensures write_faults { IsSame (⟦<Buffered<F> as Files>⟧.write_faults self) (F.write_faults result) }
     {
         self.inner
     }

@@ -1,0 +1,140 @@
+//! What is written of the frames of a capture.
+use super::{ARP, HEADER, STRAIGHT, UDP, check, files, head, joined, run};
+use crate::Fault;
+use mt_pcap::PcapFault;
+use std::test::Fail;
+
+const IPV4: &str =
+    "FromDevice(a) -> c :: Classifier(12/0800, -); c[0] -> ToDevice(b); c[1] -> Discard;";
+
+// The packet of each frame behind another Ethernet header.
+const FORWARD: &str = "FromDevice(a) -> Strip(14) -> CheckIPHeader
+    -> EtherEncap(0x0800, 02:00:00:00:00:0a, 02:00:00:00:00:0b) -> ToDevice(b);";
+
+// The same with one hop less to live.
+const ROUTER: &str = "FromDevice(a) -> Strip(14) -> CheckIPHeader -> DecIPTTL
+    -> EtherEncap(0x0800, 02:00:00:00:00:0a, 02:00:00:00:00:0b) -> ToDevice(b);";
+
+// A TCP packet from 10.0.0.5:5000 to 198.51.100.9:80 with the wrong checksum 1234, and 6 bytes of zero
+// behind it.
+const PADDED: [u8; 60] = [
+    0x02, 0x00, 0x00, 0x00, 0x00, 0x02, 0x02, 0x00, 0x00, 0x00, 0x00, 0x01, 0x08, 0x00, 0x45, 0x00,
+    0x00, 0x28, 0x00, 0x02, 0x00, 0x00, 0x40, 0x06, 0x46, 0x8d, 0x0a, 0x00, 0x00, 0x05, 0xc6, 0x33,
+    0x64, 0x09, 0x13, 0x88, 0x00, 0x50, 0x00, 0x00, 0x00, 0x01, 0x00, 0x00, 0x00, 0x00, 0x50, 0x02,
+    0x20, 0x00, 0x12, 0x34, 0x00, 0x00, 0, 0, 0, 0, 0, 0,
+];
+
+// The Ethernet header that `FORWARD` and `ROUTER` put in front.
+const ETHERNET: [u8; 14] = [
+    0x02, 0x00, 0x00, 0x00, 0x00, 0x0b, 0x02, 0x00, 0x00, 0x00, 0x00, 0x0a, 0x08, 0x00,
+];
+
+// A big-endian capture in microseconds with the MAC addresses and the EtherType of a frame.
+const MICROSECONDS: [u8; 54] = [
+    0xa1, 0xb2, 0xc3, 0xd4, 0x00, 0x02, 0x00, 0x04, 0, 0, 0, 0, 0, 0, 0, 0, 0x00, 0x00, 0xff, 0xff,
+    0x00, 0x00, 0x00, 0x01, 0x00, 0x00, 0x00, 0x01, 0x00, 0x00, 0x00, 0x02, 0x00, 0x00, 0x00, 0x0e,
+    0x00, 0x00, 0x00, 0x0e, 0x02, 0x00, 0x00, 0x00, 0x00, 0x02, 0x02, 0x00, 0x00, 0x00, 0x00, 0x01,
+    0x08, 0x00,
+];
+
+// The record of that frame as it is written.
+const REWRITTEN: [u8; 30] = [
+    0x01, 0x00, 0x00, 0x00, 0xd0, 0x07, 0x00, 0x00, 0x0e, 0x00, 0x00, 0x00, 0x0e, 0x00, 0x00, 0x00,
+    0x02, 0x00, 0x00, 0x00, 0x00, 0x02, 0x02, 0x00, 0x00, 0x00, 0x00, 0x01, 0x08, 0x00,
+];
+
+// The UDP packet with that time to live and the first byte of its header checksum.
+fn with_time_to_live(time_to_live: u8, checksum: u8) -> [u8; 46] {
+    let mut frame = UDP;
+    frame[22] = time_to_live;
+    frame[24] = checksum;
+    frame
+}
+
+// A capture of 148 bytes with two records, and 12 bytes of a third one's head, keeps the two.
+const TORN: Fault = Fault::Capture(1, PcapFault::Torn(148));
+
+#[test]
+fn frames_are_written_as_the_chain_sends_them(rt: HostRuntime) -> Result<(), Fail> {
+    let alloc = rt.alloc();
+    let two_hops = with_time_to_live(2, 0x84);
+    let one_hop = with_time_to_live(1, 0x85);
+    let no_hop = with_time_to_live(0, 0x86);
+    let cases: [(&str, &[&[u8]], Fault, &[u32], &[&[u8]]); 7] = [
+        // A capture with no record gives a header.
+        (STRAIGHT, &[&HEADER], Fault::Done, &[], &[&HEADER]),
+        // A classifier keeps one frame of two.
+        (
+            IPV4,
+            &[&HEADER, &head(1, 46), &UDP, &head(2, 42), &ARP],
+            Fault::Done,
+            &[0, 1],
+            &[&HEADER, &head(1, 46), &UDP],
+        ),
+        // What follows a packet is cut off.
+        (
+            FORWARD,
+            &[&HEADER, &head(1, 60), &PADDED],
+            Fault::Done,
+            &[0],
+            &[&HEADER, &head(1, 54), &ETHERNET, &PADDED[14..54]],
+        ),
+        // A router drops packets at their last hop.
+        (
+            ROUTER,
+            &[
+                &HEADER,
+                &head(1, 46),
+                &two_hops,
+                &head(2, 46),
+                &one_hop,
+                &head(3, 46),
+                &no_hop,
+            ],
+            Fault::Done,
+            &[0, 1, 2],
+            &[&HEADER, &head(1, 46), &ETHERNET, &one_hop[14..]],
+        ),
+        // Frames stay in their order, whatever their times.
+        (
+            STRAIGHT,
+            &[&HEADER, &head(9, 46), &UDP, &head(2, 42), &ARP],
+            Fault::Done,
+            &[0, 1],
+            &[&HEADER, &head(9, 46), &UDP, &head(2, 42), &ARP],
+        ),
+        // Microseconds are written as nanoseconds.
+        (
+            STRAIGHT,
+            &[&MICROSECONDS],
+            Fault::Done,
+            &[0],
+            &[&HEADER, &REWRITTEN],
+        ),
+        // A torn capture keeps its whole records.
+        (
+            STRAIGHT,
+            &[
+                &HEADER,
+                &head(1, 46),
+                &UDP,
+                &head(2, 46),
+                &UDP,
+                &head(3, 46)[..12],
+            ],
+            TORN,
+            &[0, 1],
+            &[&HEADER, &head(1, 46), &UDP, &head(2, 46), &UDP],
+        ),
+    ];
+    for (chain, capture, fault, order, wanted) in cases {
+        let capture = joined(alloc, capture)?;
+        let mut files = files(alloc, chain, &capture)?;
+        let outcome = run(alloc, &mut files)?;
+        let status = if fault == Fault::Done { 0 } else { 5 };
+        check(&rt, &outcome, status, fault, order);
+        let wanted = joined(alloc, wanted)?;
+        assert_eq!(rt; files.written("out"), wanted.as_slice());
+    }
+    Ok(())
+}
