@@ -2,7 +2,7 @@
 use Rattle.std.proofs.Common.{◌≡◌, ◌⊎◌, inl, inr, ⊎_elim, ℕ, ◌<◌, ◌≤◌, List, Option, Some, None, refl, sym, ◌∙◌, ap, subst, arith}
 use Rattle.std.specs.Prelude.{IsSomeAnd}
 use Rattle.mt_io.specs.Files.{Rose, IsSame, IsSameBut, NeverFell}
-use Rattle.mt_io.specs.Laws.{rose_then, same_twice}
+use Rattle.mt_io.specs.Laws.{rose_then, then_rose, same_twice}
 use Rattle.mt_elements.specs.ChainState.{ChainState}
 use Rattle.metron.specs.Command.{Words, command_of}
 use Rattle.metron.specs.Inputs.{Told, ChainFault, ScriptFault, CaptureFault}
@@ -85,9 +85,9 @@ none_is_some (Some y) x P is h = let same : y ≡ x = cc in subst P same h
 
 sender_is : (words : List (List ℕ)) (held : Held) (number : ℕ) → 0 < number → IsSender words held number → IsOutput words held number
 sender_is words held number some sender = elim sender [
-    | inl none ↦ absurd (omega (arith, some, none))
-    | inr is ↦ is
-  ]
+  | inl none ↦ absurd (omega (arith, some, none))
+  | inr is ↦ is
+]
 
 -- the name of the output is the one of which bytes are pending, or it is no file of the command
 pub finish_fault : (words : List (List ℕ)) (old new : State) (c : Words) (fault : Fault) (device : ℕ) (unwritten first : Option (List ℕ))
@@ -95,11 +95,24 @@ pub finish_fault : (words : List (List ℕ)) (old new : State) (c : Words) (faul
     → (fault ≡ Memory) ⊎ ((0 < device) × (first ≡ Some c.output) × (fault ≡ Write (file.Output device)))
     → FinishFault words old new c fault
 finish_fault words old new c fault device unwritten first same rose sender why = elim why [
-    | inl memory ↦ subst (λ f. FinishFault words old new c f) (sym memory) tt
-    | inr write ↦
+  | inl memory ↦ subst (λ f. FinishFault words old new c f) (sym memory) tt
+  | inr write ↦
       subst (λ f. FinishFault words old new c f) (sym write.2)
       (sender_is words old.held device write.0 sender, none_is_some unwritten c.output (λ name. Rose (old.failed_writes name) (new.failed_writes name)) (sym same ∙ write.1) rose)
-  ]
+]
+
+-- what a failed finish says of the counts, from before the run on
+pub rose_between : (first : Option (List ℕ)) (old begun middle last new : List ℕ → ℕ) → IsSame old begun → NeverFell begun middle → IsSame last new
+    → IsSomeAnd first (λ name. Rose (middle name) (last name)) → IsSomeAnd first (λ name. Rose (old name) (new name))
+rose_between None old begun middle last new same kept end h = h
+rose_between (Some name) old begun middle last new same kept end h =
+    subst (λ n. Rose n (new name)) (same name) (then_rose (begun name) (middle name) (new name) (kept name) (subst (λ n. Rose (middle name) n) (sym (end name)) h))
+
+pub fell_then_same : (old middle new : List ℕ → ℕ) → NeverFell old middle → IsSame middle new → NeverFell old new
+fell_then_same old middle new kept same name = subst (λ n. old name ≤ n) (sym (same name)) (kept name)
+
+pub sender_from : (words : List (List ℕ)) (held begun : Held) (number : ℕ) → IsSame held begun → IsSender words begun number → IsSender words held number
+sender_from words held begun number same sender = subst (λ (h : Held). IsSender words h number) (λ i n. same n i) sender
 
 -- ---- what follows
 

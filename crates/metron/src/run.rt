@@ -62,11 +62,7 @@ pub fn metron<F: Files>(alloc: Global, words: &[String], files: &mut F) -> Outco
 
 /// Runs the command that the words are, as `metron` does, over files that are read and written through
 /// buffers, and has all written. Where that fails at last, the run ends as at any failed write of its output.
-pub fn serve_command<F: Files + Drop>(
-    alloc: Global,
-    words: &[String],
-    files: F,
-) -> (Outcome, F)
+pub fn serve_command<F: Files + Drop>(alloc: Global, words: &[String], files: F) -> (Outcome, F)
     ensures status { result.0.status ≡ status_of result.0.fault }
     ensures run { IsServed (map string_bytes words.now)
         (state_of F.held F.written F.read_faults F.write_faults files)
@@ -133,7 +129,7 @@ fn run_buffered<F: Files + Drop>(
 /// The fault where bytes of a file are still pending at the end. The output is the only file that a run
 /// writes.
 fn unwritten_fault(output: &str, unwritten: Option<&str>, device: u32) -> Fault
-    ensures { (result ≡ Fault.Memory) ⊎ ((0 < device) × (option_map (λ name. name.now) unwritten ≡ Some output.now) × (result ≡ Fault.Write (FileId.Output device))) }
+    ensures { (result ≡ Fault.Memory) ⊎ ((0 < device) × (option_map (λ name. name.now) unwritten.entry ≡ Some output.now) × (result ≡ Fault.Write (FileId.Output device))) }
 {
     match unwritten {
         Some(name) if name == output && device > 0 => Fault::Write(FileId::Output(device)),

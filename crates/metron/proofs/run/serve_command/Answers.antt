@@ -6,13 +6,13 @@ use Rattle.metron.proofs.Finished.{exact, complete, finished, early, moved}
 use Rattle.metron.proofs.run.serve_command.Goals as goal
 
 pub returns-clause-done : goal.returns-clause-done
-returns-clause-done g c = λ done. finished _ _ _ _ _ (moved _ _ _ _ _ _ _ c.new.ensures.fault c.new.ensures.order c.run_buffered.ensures) done
+returns-clause-done g c = λ done. finished _ _ _ _ _ (moved _ _ _ _ _ _ _ c.new.ensures.fault c.new.ensures.order c.run_buffered-fault.ensures) done
 
 pub returns-clause-nothing_written : goal.returns-clause-nothing_written
-returns-clause-nothing_written g c = λ before. early _ _ _ _ _ (moved _ _ _ _ _ _ _ c.new.ensures.fault c.new.ensures.order c.run_buffered.ensures) before
+returns-clause-nothing_written g c = λ before. early _ _ _ _ _ (moved _ _ _ _ _ _ _ c.new.ensures.fault c.new.ensures.order c.run_buffered-fault.ensures) before
 
 pub returns-clause-exact : goal.returns-clause-exact
-returns-clause-exact g c = exact _ _ _ _ _ (moved _ _ _ _ _ _ _ c.new.ensures.fault c.new.ensures.order c.run_buffered.ensures)
+returns-clause-exact g c = exact _ _ _ _ _ (moved _ _ _ _ _ _ _ c.new.ensures.fault c.new.ensures.order c.run_buffered-fault.ensures)
 
 pub returns-clause-complete : goal.returns-clause-complete
-returns-clause-complete g c = λ none answer is. complete _ _ _ _ _ answer (moved _ _ _ _ _ _ _ c.new.ensures.fault c.new.ensures.order c.run_buffered.ensures) none is
+returns-clause-complete g c = λ none answer is. complete _ _ _ _ _ answer (moved _ _ _ _ _ _ _ c.new.ensures.fault c.new.ensures.order c.run_buffered-fault.ensures) none is
