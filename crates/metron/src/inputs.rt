@@ -1,7 +1,7 @@
 //! What the files of a command hold.
 ghost use Rattle.std.specs.Prelude.{◌≡◌, ◌<◌, ◌≤◌, ◌*◌, ◌/◌, ◌^◌, length, All, IfOk, IfErr, OnOk, Some};
 ghost use Rattle.mt_io.specs.Files.{IsSame, IsSameBut, NeverFell};
-ghost use Rattle.mt_pcap.specs.Merge.{capture_seen};
+ghost use Rattle.mt_pcap.specs.Capture.{capture_seen};
 ghost use Rattle.metron.specs.Inputs.{IsChainRead, ChainFault, IsScriptRead, ScriptFault, IsCaptureRead, CaptureFault, is_no_header};
 
 use crate::{Fault, FileId};

@@ -4,7 +4,7 @@ use Rattle.metron.specs.Causes.{State, state_of, end_of}
 use Rattle.metron.specs.Causes.IsRun.{chain_refused, not_bound}
 use Rattle.metron.specs.Command.{view}
 use Rattle.metron.specs.Serving.{HasServed, HasServedSome, ServeFault}
-use Rattle.mt_pcap.specs.Merge.{capture_seen}
+use Rattle.mt_pcap.specs.Capture.{capture_seen}
 use Rattle.metron.proofs.Runs.{HasRead, at_chain, stops_at_script, stops_at_capture, breaks_off, ends}
 use Rattle.metron.proofs.run.run.Goals as goal
 
