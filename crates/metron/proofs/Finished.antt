@@ -1,9 +1,8 @@
 -- A run through buffers, all of whose bytes were written or some of which are pending.
-use Rattle.std.proofs.Common.{◌≡◌, ◌⊎◌, inl, inr, ⊎_elim, ℕ, ◌<◌, ◌≤◌, List, Option, Some, None, refl, sym, ◌∙◌, ap, subst, arith}
+use Rattle.std.proofs.Common.{◌≡◌, ◌⊎◌, inl, inr, ℕ, ◌<◌, ◌≤◌, List, Option, Some, None, sym, ◌∙◌, subst, arith}
 use Rattle.std.specs.Prelude.{IsSomeAnd}
 use Rattle.mt_io.specs.Files.{Rose, IsSame, IsSameBut, NeverFell}
 use Rattle.mt_io.specs.Laws.{rose_then, then_rose, same_twice}
-use Rattle.mt_elements.specs.ChainState.{ChainState}
 use Rattle.metron.specs.Command.{Words, command_of}
 use Rattle.metron.specs.Inputs.{Told, ChainFault, ScriptFault, CaptureFault}
 use Rattle.metron.specs.Serving.{HasServed, HasServedSome, ServeFault}
@@ -14,7 +13,7 @@ use Rattle.metron.specs.Finish.{IsOutput, IsSender, FinishFault, IsServed}
 use Rattle.metron.specs.Finish.IsServed.{all_written, some_pending}
 use Rattle.metron.specs.declared.outcome.FileId.TheVariants as file
 use Rattle.metron.specs.declared.outcome.Fault.{Fault}
-use Rattle.metron.specs.declared.outcome.Fault.TheVariants.{Done, Unbuilt, TooLong, Capture, Read, Write, Memory}
+use Rattle.metron.specs.declared.outcome.Fault.TheVariants.{Done, Read, Write, Memory}
 use Rattle.metron.proofs.Exact as exactly
 
 -- ---- the state before

@@ -2,6 +2,7 @@
 use super::{ARP, HEADER, STRAIGHT, UDP, check, files, head, joined, run};
 use crate::Fault;
 use mt_pcap::PcapFault;
+use std::process::Abort;
 use std::test::Fail;
 
 const IPV4: &str =
@@ -51,90 +52,101 @@ fn with_time_to_live(time_to_live: u8, checksum: u8) -> [u8; 46] {
     frame
 }
 
-// A capture of 148 bytes with two records, and 12 bytes of a third one's head, keeps the two.
-const TORN: Fault = Fault::Capture(1, PcapFault::Torn(148));
+// Runs a chain over a capture, and compares what is written.
+fn sends(
+    rt: &(impl Abort + AllocGlobal),
+    chain: &str,
+    capture: &[&[u8]],
+    fault: Fault,
+    order: &[u32],
+    wanted: &[&[u8]],
+) -> Result<(), Fail> {
+    let alloc = rt.alloc();
+    let capture = joined(alloc, capture)?;
+    let mut files = files(alloc, chain, &capture)?;
+    let outcome = run(alloc, &mut files)?;
+    let status = if fault == Fault::Done { 0 } else { 5 };
+    check(rt, &outcome, status, fault, order);
+    let wanted = joined(alloc, wanted)?;
+    assert_eq!(rt; files.written("out"), wanted.as_slice());
+    Ok(())
+}
 
 #[test]
 fn frames_are_written_as_the_chain_sends_them(rt: HostRuntime) -> Result<(), Fail> {
-    let alloc = rt.alloc();
+    let done = Fault::Done;
+    // A capture with no record gives a header.
+    sends(&rt, STRAIGHT, &[&HEADER], done, &[], &[&HEADER])?;
+
+    // A classifier keeps one frame of two.
+    sends(
+        &rt,
+        IPV4,
+        &[&HEADER, &head(1, 46), &UDP, &head(2, 42), &ARP],
+        done,
+        &[0, 1],
+        &[&HEADER, &head(1, 46), &UDP],
+    )?;
+
+    // What follows a packet is cut off.
+    sends(
+        &rt,
+        FORWARD,
+        &[&HEADER, &head(1, 60), &PADDED],
+        done,
+        &[0],
+        &[&HEADER, &head(1, 54), &ETHERNET, &PADDED[14..54]],
+    )?;
+
+    // A router drops packets at their last hop.
     let two_hops = with_time_to_live(2, 0x84);
     let one_hop = with_time_to_live(1, 0x85);
     let no_hop = with_time_to_live(0, 0x86);
-    let cases: [(&str, &[&[u8]], Fault, &[u32], &[&[u8]]); 7] = [
-        // A capture with no record gives a header.
-        (STRAIGHT, &[&HEADER], Fault::Done, &[], &[&HEADER]),
-        // A classifier keeps one frame of two.
-        (
-            IPV4,
-            &[&HEADER, &head(1, 46), &UDP, &head(2, 42), &ARP],
-            Fault::Done,
-            &[0, 1],
-            &[&HEADER, &head(1, 46), &UDP],
-        ),
-        // What follows a packet is cut off.
-        (
-            FORWARD,
-            &[&HEADER, &head(1, 60), &PADDED],
-            Fault::Done,
-            &[0],
-            &[&HEADER, &head(1, 54), &ETHERNET, &PADDED[14..54]],
-        ),
-        // A router drops packets at their last hop.
-        (
-            ROUTER,
-            &[
-                &HEADER,
-                &head(1, 46),
-                &two_hops,
-                &head(2, 46),
-                &one_hop,
-                &head(3, 46),
-                &no_hop,
-            ],
-            Fault::Done,
-            &[0, 1, 2],
-            &[&HEADER, &head(1, 46), &ETHERNET, &one_hop[14..]],
-        ),
-        // Frames stay in their order, whatever their times.
-        (
-            STRAIGHT,
-            &[&HEADER, &head(9, 46), &UDP, &head(2, 42), &ARP],
-            Fault::Done,
-            &[0, 1],
-            &[&HEADER, &head(9, 46), &UDP, &head(2, 42), &ARP],
-        ),
-        // Microseconds are written as nanoseconds.
-        (
-            STRAIGHT,
-            &[&MICROSECONDS],
-            Fault::Done,
-            &[0],
-            &[&HEADER, &REWRITTEN],
-        ),
-        // A torn capture keeps its whole records.
-        (
-            STRAIGHT,
-            &[
-                &HEADER,
-                &head(1, 46),
-                &UDP,
-                &head(2, 46),
-                &UDP,
-                &head(3, 46)[..12],
-            ],
-            TORN,
-            &[0, 1],
-            &[&HEADER, &head(1, 46), &UDP, &head(2, 46), &UDP],
-        ),
-    ];
-    for (chain, capture, fault, order, wanted) in cases {
-        let capture = joined(alloc, capture)?;
-        let mut files = files(alloc, chain, &capture)?;
-        let outcome = run(alloc, &mut files)?;
-        let status = if fault == Fault::Done { 0 } else { 5 };
-        check(&rt, &outcome, status, fault, order);
-        let wanted = joined(alloc, wanted)?;
-        assert_eq!(rt; files.written("out"), wanted.as_slice());
-    }
-    Ok(())
+    sends(
+        &rt,
+        ROUTER,
+        &[
+            &HEADER,
+            &head(1, 46),
+            &two_hops,
+            &head(2, 46),
+            &one_hop,
+            &head(3, 46),
+            &no_hop,
+        ],
+        done,
+        &[0, 1, 2],
+        &[&HEADER, &head(1, 46), &ETHERNET, &one_hop[14..]],
+    )?;
+
+    // Frames stay in their order, whatever their times.
+    let frames = [HEADER.as_slice(), &head(9, 46), &UDP, &head(2, 42), &ARP];
+    sends(&rt, STRAIGHT, &frames, done, &[0, 1], &frames)?;
+
+    // Microseconds are written as nanoseconds.
+    sends(
+        &rt,
+        STRAIGHT,
+        &[&MICROSECONDS],
+        done,
+        &[0],
+        &[&HEADER, &REWRITTEN],
+    )?;
+
+    // A torn capture, of 148 bytes and a part of a third record, keeps its whole records.
+    sends(
+        &rt,
+        STRAIGHT,
+        &[
+            &HEADER,
+            &head(1, 46),
+            &UDP,
+            &head(2, 46),
+            &UDP,
+            &head(3, 46)[..12],
+        ],
+        Fault::Capture(1, PcapFault::Torn(148)),
+        &[0, 1],
+        &[&HEADER, &head(1, 46), &UDP, &head(2, 46), &UDP],
+    )
 }

@@ -5,7 +5,7 @@ use Rattle.mt_io.specs.Laws.{same_refl}
 use Rattle.metron.specs.Causes.IsRun.{no_command}
 use Rattle.metron.specs.Finish.IsServed.{all_written, some_pending}
 use Rattle.metron.specs.Command.{view}
-use Rattle.metron.proofs.Finished.{IsSameState, from_same, later, finish_fault, rose_between, fell_then_same, sender_from}
+use Rattle.metron.proofs.Finished.{from_same, later, finish_fault, rose_between, fell_then_same, sender_from}
 use Rattle.metron.proofs.run.run_buffered.Goals as goal
 
 pub returns-in_default : goal.returns-in_default

@@ -1,7 +1,4 @@
 -- Each clause follows from what the run through buffers is.
-use Rattle.std.proofs.Common.{map}
-use Rattle.std.specs.String.{string_bytes}
-use Rattle.metron.specs.Causes.{state_of}
 use Rattle.metron.proofs.Finished.{exact, complete, finished, early, moved}
 use Rattle.metron.proofs.run.serve_command.Goals as goal
 
