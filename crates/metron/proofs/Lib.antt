@@ -1,4 +1,3 @@
-mod Taken
 mod Names
 mod Texts
 mod Runs

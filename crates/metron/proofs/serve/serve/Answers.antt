@@ -4,7 +4,7 @@ use Rattle.mt_io.specs.Files.{Gains}
 use Rattle.mt_io.specs.Copy.{GainsFront}
 use Rattle.mt_io.specs.Laws.{same_but_twice, same_twice, never_fell_twice}
 use Rattle.mt_chain.specs.Run.{IsThere, entry_of}
-use Rattle.metron.proofs.Taken.{with_rest, with_one, at_end}
+use Rattle.mt_lists.proofs.Iterated.{with_rest, with_one, at_end}
 use Rattle.metron.proofs.Texts.{counted_more, begun, broken_at_header, only_header, stopped_at, one_served, broken_at, all_served}
 use Rattle.metron.proofs.serve.serve.Goals as goal
 
