@@ -1,0 +1,13 @@
+mod Boxed
+mod Fields
+mod Finished
+mod Loops
+mod Merging
+mod Nodes
+mod Places
+mod Pushing
+mod Rows
+mod Picked
+mod Trees
+mod Unique
+mod Walks

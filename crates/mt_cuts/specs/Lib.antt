@@ -1,0 +1,6 @@
+pub mod Boxes
+pub mod Canonical
+pub mod Leaves
+pub mod Tree
+pub mod View
+pub mod Walk

@@ -1,0 +1,26 @@
+//! Functions of headers with finitely many values, as trees of cuts in a canonical form. The theorem: two
+//! trees are one function exactly where they are equal, and each merge gives each header what its function
+//! makes of the values of the merged trees. Read `specs/Tree.antt` first, then `specs/Canonical.antt`.
+#![tactic(auto)]
+
+mod choice;
+mod cursor;
+mod cut;
+mod domain;
+pub mod laws;
+mod leaves;
+mod merged;
+mod parts;
+mod same;
+mod spans;
+#[cfg(test)]
+mod tests;
+mod value;
+
+pub use choice::{Choice, Combine};
+pub use cut::Cut;
+pub use domain::{last_of, least_of};
+pub use leaves::Leaf;
+pub use merged::{merge, merge_three};
+pub use same::is_same_function;
+pub use spans::split;
