@@ -1,0 +1,127 @@
+-- Keys that compare as equal are one key, and what an update of a map leaves.
+use Rattle.std.proofs.Common.{◌≡◌, ◌≢◌, ◌⊎◌, ◌∙◌, ℕ, zero, suc, ◌+◌, ◌<◌, ◌≤◌, List, [], ◌∷◌, ◌++◌, Option, Some, None, Contains, Bool, true, false, cond, Ordering, Less, Equal, Greater, sym, ap, refl, subst, inl, inr, arith}
+use Rattle.std.specs.BTreeMap as tree
+use Rattle.std.specs.Cmp.{IsTotalOrder}
+use Rattle.std.specs.Ordering.{nat_cmp, ordering_then, is_eq}
+use Rattle.std.specs.Map.{lookup}
+use Rattle.std.proofs.lemmas.Cmp.{nat_cmp_total, then_total, on_total, tied_itself}
+use Rattle.std.proofs.lemmas.Bool.Decides.{nat_tests}
+use Rattle.mt_packet.specs.declared.flow.Flow.{Flow}
+use Rattle.mt_flow.specs.declared.keys.ForwardKey.{ForwardKey}
+use Rattle.mt_flow.specs.declared.keys.ReplyKey.{ReplyKey}
+use Rattle.mt_flow.specs.declared.keys.LaneAge.{LaneAge}
+use Rattle.mt_flow.specs.Keys.{flow_cmp, forward_cmp, reply_cmp, lane_cmp}
+use Rattle.mt_flow.specs.Tied.{IsRising}
+
+then_equal : (o p : Ordering) → ordering_then o p ≡ Equal → (o ≡ Equal) × (p ≡ Equal)
+then_equal Less p e = absurd cc
+then_equal Equal p e = (refl, e)
+then_equal Greater p e = absurd cc
+
+nat_same : (x y : ℕ) → nat_cmp x y ≡ Equal → x ≡ y
+nat_same x y e = grind (arith, nat_tests)
+
+-- a comparison that ties only a key with itself
+pub record IsExact {K : Type 0} (cmp : K → K → Ordering) : Type 0 where
+  pub total : IsTotalOrder cmp
+  pub same : (x y : K) → cmp x y ≡ Equal → x ≡ y
+
+abbrev flow_of : ℕ → ℕ → ℕ → ℕ → ℕ → Flow
+flow_of proto sa sp da dp = record { proto = proto; sa = sa; sp = sp; da = da; dp = dp }
+
+abbrev forward_of : ℕ → ℕ → Flow → ForwardKey
+forward_of element input before = record { element = element; input = input; before = before }
+
+abbrev reply_from : ℕ → Flow → ReplyKey
+reply_from element flow = record { element = element; flow = flow }
+
+abbrev lane_from : ℕ → ℕ → ℕ → LaneAge
+lane_from group bucket age = record { group = group; bucket = bucket; age = age }
+
+flow_total : IsTotalOrder flow_cmp
+flow_total = then_total (on_total (λ (f : Flow). f.proto) nat_cmp_total) (then_total (on_total (λ (f : Flow). f.sa) nat_cmp_total) (then_total (on_total (λ (f : Flow). f.sp) nat_cmp_total) (then_total (on_total (λ (f : Flow). f.da) nat_cmp_total) (on_total (λ (f : Flow). f.dp) nat_cmp_total))))
+
+flow_same : (x y : Flow) → flow_cmp x y ≡ Equal → x ≡ y
+flow_same x y e =
+    let a = then_equal _ _ e in
+    let b = then_equal _ _ a.1 in
+    let c = then_equal _ _ b.1 in
+    let d = then_equal _ _ c.1 in
+    let proto : x.proto ≡ y.proto = nat_same x.proto y.proto a.0 in
+    let sa : x.sa ≡ y.sa = nat_same x.sa y.sa b.0 in
+    let sp : x.sp ≡ y.sp = nat_same x.sp y.sp c.0 in
+    let da : x.da ≡ y.da = nat_same x.da y.da d.0 in
+    let dp : x.dp ≡ y.dp = nat_same x.dp y.dp d.1 in
+    let whole : flow_of x.proto x.sa x.sp x.da x.dp ≡ flow_of y.proto y.sa y.sp y.da y.dp = cc in whole
+
+pub forward_exact : IsExact forward_cmp
+forward_exact = record {
+  total = then_total (on_total (λ (k : ForwardKey). k.element) nat_cmp_total) (then_total (on_total (λ (k : ForwardKey). k.input) nat_cmp_total) (on_total (λ (k : ForwardKey). k.before) flow_total));
+  same = λ x y e. let a = then_equal _ _ e in let b = then_equal _ _ a.1 in 
+    let p : x.element ≡ y.element = nat_same x.element y.element a.0 in let q : x.input ≡ y.input = nat_same x.input y.input b.0 in let r : x.before ≡ y.before = flow_same x.before y.before b.1 in
+    let whole : forward_of x.element x.input x.before ≡ forward_of y.element y.input y.before = cc in whole
+}
+
+pub reply_exact : IsExact reply_cmp
+reply_exact = record {
+  total = then_total (on_total (λ (k : ReplyKey). k.element) nat_cmp_total) (on_total (λ (k : ReplyKey). k.flow) flow_total);
+  same = λ x y e. let a = then_equal _ _ e in 
+    let p : x.element ≡ y.element = nat_same x.element y.element a.0 in let q : x.flow ≡ y.flow = flow_same x.flow y.flow a.1 in
+    let whole : reply_from x.element x.flow ≡ reply_from y.element y.flow = cc in whole
+}
+
+pub lane_exact : IsExact lane_cmp
+lane_exact = record {
+  total = then_total (on_total (λ (k : LaneAge). k.group) nat_cmp_total) (then_total (on_total (λ (k : LaneAge). k.bucket) nat_cmp_total) (on_total (λ (k : LaneAge). k.age) nat_cmp_total));
+  same = λ x y e. let a = then_equal _ _ e in let b = then_equal _ _ a.1 in 
+    let p : x.group ≡ y.group = nat_same x.group y.group a.0 in let q : x.bucket ≡ y.bucket = nat_same x.bucket y.bucket b.0 in let r : x.age ≡ y.age = nat_same x.age y.age b.1 in
+    let whole : lane_from x.group x.bucket x.age ≡ lane_from y.group y.bucket y.age = cc in whole
+}
+
+-- two keys are one, or they are apart
+pub one_or_apart : {K : Type 0} {cmp : K → K → Ordering} (exact : IsExact cmp) (x y : K) → (x ≡ y) ⊎ (x ≢ y)
+one_or_apart {K = K} {cmp = cmp} exact x y = cases (cmp x y) refl where
+  cases : (o : Ordering) → cmp x y ≡ o → (x ≡ y) ⊎ (x ≢ y)
+  cases Equal e = inl (exact.same x y e)
+  cases Less e = inr (λ one. let tied : cmp x x ≡ Equal = tied_itself exact.total x in let other : cmp x x ≡ Less = ap (cmp x) one ∙ e in absurd cc)
+  cases Greater e = inr (λ one. let tied : cmp x x ≡ Equal = tied_itself exact.total x in let other : cmp x x ≡ Greater = ap (cmp x) one ∙ e in absurd cc)
+
+-- what is found after an update
+pub record IsUpdate {K X : Type 0} (old new : K → Option X) (key : K) (value : Option X) : Type 0 where
+  pub here : new key ≡ value
+  pub apart : (other : K) → other ≢ key → new other ≡ old other
+
+untied : {K : Type 0} {cmp : K → K → Ordering} (exact : IsExact cmp) (x y : K) (o : Ordering) → cmp x y ≡ o → y ≢ x → is_eq o ≡ false
+untied exact x y Less e ne = refl
+untied exact x y Equal e ne = absurd (ne (sym (exact.same x y e)))
+untied exact x y Greater e ne = refl
+
+pub update_of : {K X : Type 0} {cmp : K → K → Ordering} (exact : IsExact cmp) (old new : tree.BTreeMap K X) (key : K) (value : Option X) → tree.Updates cmp old new key value → IsUpdate (tree.get cmp old) (tree.get cmp new) key value
+update_of {cmp = cmp} exact old new key value u = record { here = u.1; apart = λ other ne. u.2 other (untied exact key other (cmp key other) refl ne) }
+
+-- a key is added and taken out again
+pub restored : {K X : Type 0} {cmp : K → K → Ordering} (exact : IsExact cmp) (old mid new : tree.BTreeMap K X) (key : K) (value : Option X) → tree.get cmp old key ≡ None
+    → tree.Updates cmp old mid key value → tree.Updates cmp mid new key None → (other : K) → tree.get cmp new other ≡ tree.get cmp old other
+restored exact old mid new key value absent added taken other =
+    let add = update_of exact old mid key value added in
+    let take = update_of exact mid new key None taken in
+    elim (one_or_apart exact other key) [
+      | inl one ↦ rw one (take.here ∙ sym absent)
+      | inr two ↦ take.apart other two ∙ add.apart other two
+    ]
+
+pub rising_ends : (least next : ℕ) (order : List (ℕ × ForwardKey)) → IsRising least next order → least ≤ next
+rising_ends least next [] h = h
+rising_ends least next (first ∷ order) h = let rest = rising_ends (suc first.0) next order h.1 in let low = h.0 in omega (arith, rest, low)
+
+-- an age above all others goes behind them
+pub entered_last : (least age : ℕ) (key : ForwardKey) (order : List (ℕ × ForwardKey)) → IsRising least age order → tree.insert_entry nat_cmp order age key ≡ order ++ (age, key) ∷ []
+entered_last least age key [] h = refl
+entered_last least age key (first ∷ order) h =
+    let below = rising_ends (suc first.0) age order h.1 in
+    let above : nat_cmp age first.0 ≡ Greater = grind (arith, nat_tests, below) in
+    rw above (ap (λ rest. first ∷ rest) (entered_last (suc first.0) age key order h.1))
+
+
+pub same_found : {K X : Type 0} (cmp : K → K → Ordering) (old new : tree.BTreeMap K X) → new.entries ≡ old.entries → (key : K) → tree.get cmp new key ≡ tree.get cmp old key
+same_found cmp old new same key = ap (lookup (tree.is_at (cmp key))) same

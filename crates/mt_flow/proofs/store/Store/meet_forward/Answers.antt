@@ -1,0 +1,16 @@
+use Rattle.std.proofs.Common.{◌≡◌, ◌∙◌, Some, None, Contains, MatchOption, sym, ap, subst, refl}
+use Rattle.std.specs.BTreeMap as tree
+use Rattle.mt_flow.specs.declared.mapping.Mapping.{Mapping}
+use Rattle.mt_flow.specs.Keys.{forward_cmp}
+use Rattle.mt_flow.specs.Mappings.{forward_key, met_forward, StandsForward}
+use Rattle.mt_flow.proofs.Stored.{forward_found, not_standing}
+use Rattle.mt_flow.proofs.store.Store.meet_forward.Goals as goal
+
+pub returns-in_err-mapping : goal.returns-in_err-mapping
+returns-in_err-mapping c = rw c.from_residual.ensures (subst (λ list. StandsForward list (record { element = c.args.element; input = c.args.input; before = c.args.flow.now }) → ⊥) c.self.view_is
+    (not_standing c.self.inside.by_forward c.self.inside.indexes _ c.self.invariant.0 (sym c.in_err-mapping.ensures.value)))
+
+pub returns : goal.returns
+returns c =
+    let f = (forward_found c.self.inside.by_forward c.self.inside.indexes (record { element = c.args.element; input = c.args.input; before = c.args.flow.now }) c.in_ok-mapping.mapping.now c.self.invariant.0).0 (sym c.in_ok-mapping.ensures.value) in
+    (c.in_ok-mapping.mapping.now, (subst (λ list. Contains list c.in_ok-mapping.mapping.now) c.self.view_is f.0, f.1, refl))

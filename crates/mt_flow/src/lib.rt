@@ -1,0 +1,13 @@
+//! The mappings that a server keeps, in the order of opening and accepting. The contract speaks of that
+//! list; the code has an ordered map by forward key, one by reply key, and orders by age, over all lanes
+//! and in each lane. Read `specs/Mappings.antt` first.
+#![tactic(auto)]
+
+mod indexes;
+mod keys;
+mod mapping;
+mod store;
+
+pub use keys::{ForwardKey, ReplyKey};
+pub use mapping::{Mapping, Meeting, OpenFault};
+pub use store::Store;
