@@ -2,7 +2,7 @@
 use Rattle.std.proofs.Common.{◌≡◌, ◌≢◌, ◌⊎◌, ◌∙◌, ℕ, zero, suc, ◌+◌, ◌<◌, ◌≤◌, List, [], ◌∷◌, ◌++◌, Option, Some, None, Contains, Bool, true, false, cond, Ordering, Less, Equal, Greater, sym, ap, refl, subst, inl, inr, arith}
 use Rattle.std.specs.BTreeMap as tree
 use Rattle.std.specs.Cmp.{IsTotalOrder}
-use Rattle.std.specs.Ordering.{nat_cmp, ordering_then, is_eq}
+use Rattle.std.specs.Ordering.{nat_cmp, ordering_then, is_eq, is_gt}
 use Rattle.std.specs.Map.{lookup}
 use Rattle.std.proofs.lemmas.Cmp.{nat_cmp_total, then_total, on_total, tied_itself}
 use Rattle.std.proofs.lemmas.Bool.Decides.{nat_tests}
@@ -125,3 +125,55 @@ entered_last least age key (first ∷ order) h =
 
 pub same_found : {K X : Type 0} (cmp : K → K → Ordering) (old new : tree.BTreeMap K X) → new.entries ≡ old.entries → (key : K) → tree.get cmp new key ≡ tree.get cmp old key
 same_found cmp old new same key = ap (lookup (tree.is_at (cmp key))) same
+
+-- what "not above" says of keys that are compared part by part
+then_up_to : (o p : Ordering) → is_gt (ordering_then o p) ≡ false → (o ≡ Less) ⊎ ((o ≡ Equal) × (is_gt p ≡ false))
+then_up_to Less p e = inl refl
+then_up_to Equal p e = inr (refl, e)
+then_up_to Greater p e = absurd cc
+
+nat_less : (x y : ℕ) → nat_cmp x y ≡ Less → x < y
+nat_less x y e = grind (arith, nat_tests)
+
+nat_up_to : (x y : ℕ) → is_gt (nat_cmp x y) ≡ false → x ≤ y
+nat_up_to x y e = grind (arith, nat_tests)
+
+nat_equal : (x : ℕ) → nat_cmp x x ≡ Equal
+nat_equal x = grind (arith, nat_tests)
+
+nat_zero : (x : ℕ) → is_gt (nat_cmp 0 x) ≡ false
+nat_zero x = grind (arith, nat_tests)
+
+abbrev pub lane_at : ℕ → ℕ → ℕ → LaneAge
+lane_at group bucket age = record { group = group; bucket = bucket; age = age }
+
+pub lane_start : (group bucket age : ℕ) → is_gt (lane_cmp (lane_at group bucket 0) (lane_at group bucket age)) ≡ false
+lane_start group bucket age = let g = nat_equal group in let b = nat_equal bucket in rw (g, b) (nat_zero age)
+
+pub lane_ages : (group bucket age other : ℕ) → is_gt (lane_cmp (lane_at group bucket age) (lane_at group bucket other)) ≡ false → age ≤ other
+lane_ages group bucket age other e = elim (then_up_to (nat_cmp group group) (ordering_then (nat_cmp bucket bucket) (nat_cmp age other)) e) [
+  | inl less ↦ absurd (let lt = nat_less group group less in omega (arith, lt))
+  | inr same ↦ elim (then_up_to (nat_cmp bucket bucket) (nat_cmp age other) same.1) [
+    | inl less ↦ absurd (let lt = nat_less bucket bucket less in omega (arith, lt))
+    | inr also ↦ nat_up_to age other also.1
+  ]
+]
+
+pub lane_between : (group bucket age other : ℕ) (place : LaneAge) → is_gt (lane_cmp (lane_at group bucket age) place) ≡ false → is_gt (lane_cmp place (lane_at group bucket other)) ≡ false → (place.group ≡ group) × (place.bucket ≡ bucket)
+lane_between group bucket age other place above below =
+    elim (then_up_to (nat_cmp group place.group) (ordering_then (nat_cmp bucket place.bucket) (nat_cmp age place.age)) above) [
+      | inl less ↦ elim (then_up_to (nat_cmp place.group group) (ordering_then (nat_cmp place.bucket bucket) (nat_cmp place.age other)) below) [
+        | inl more ↦ absurd (let a = nat_less group place.group less in let b = nat_less place.group group more in omega (arith, a, b))
+        | inr same ↦ absurd (let a = nat_less group place.group less in let b = nat_same place.group group same.0 in omega (arith, a, b))
+      ]
+      | inr one ↦ elim (then_up_to (nat_cmp place.group group) (ordering_then (nat_cmp place.bucket bucket) (nat_cmp place.age other)) below) [
+        | inl more ↦ absurd (let a = nat_same group place.group one.0 in let b = nat_less place.group group more in omega (arith, a, b))
+        | inr same ↦ (nat_same place.group group same.0, elim (then_up_to (nat_cmp bucket place.bucket) (nat_cmp age place.age) one.1) [
+          | inl up ↦ elim (then_up_to (nat_cmp place.bucket bucket) (nat_cmp place.age other) same.1) [
+            | inl down ↦ absurd (let a = nat_less bucket place.bucket up in let b = nat_less place.bucket bucket down in omega (arith, a, b))
+            | inr level ↦ absurd (let a = nat_less bucket place.bucket up in let b = nat_same place.bucket bucket level.0 in omega (arith, a, b))
+          ]
+          | inr up ↦ sym (nat_same bucket place.bucket up.0)
+        ])
+      ]
+    ]

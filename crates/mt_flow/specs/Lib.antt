@@ -1,4 +1,5 @@
 pub mod Indexes
 pub mod Keys
+pub mod Lanes
 pub mod Mappings
 pub mod Tied

@@ -1,6 +1,6 @@
 -- Mappings, and what they are found by. A store is seen as the list of its mappings in the order of opening
 -- and accepting; their forward keys differ, and so do their reply keys.
-use Rattle.std.specs.Prelude.{◌≡◌, List, Contains}
+use Rattle.std.specs.Prelude.{◌≡◌, ℕ, List, [], ◌∷◌, ◌++◌, length, reverse, Contains}
 use Rattle.mt_packet.specs.declared.flow.Flow.{Flow}
 use Rattle.mt_flow.specs.declared.keys.ForwardKey.{ForwardKey}
 use Rattle.mt_flow.specs.declared.keys.ReplyKey.{ReplyKey}
@@ -40,3 +40,16 @@ refused_of (NoMemory mapping) = mapping
 -- the refusal of a mapping whose reply key stands
 abbrev pub clash_of : Mapping → OpenFault
 clash_of mapping = Clash mapping
+
+-- each is new to those kept and to those in front of it: no mapping has its forward key, and none its reply key
+abbrev pub AreNew : List Mapping → List Mapping → Type 0
+AreNew mappings [] = Unit {0}
+AreNew mappings (mapping ∷ more) =
+    (StandsForward mappings (forward_key mapping) → ⊥) × (StandsReply mappings (reply_key mapping) → ⊥) × AreNew (mappings ++ mapping ∷ []) more
+
+-- the last mappings of a list moved behind others, the last first
+pub record IsTakenBack (old new before after : List Mapping) (count : ℕ) : Type 0 where
+  pub moved : List Mapping
+  pub old_is : old ≡ new ++ moved
+  pub after_is : after ≡ before ++ reverse moved
+  pub many : length moved ≡ count

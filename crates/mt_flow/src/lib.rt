@@ -5,6 +5,7 @@
 
 mod indexes;
 mod keys;
+mod lanes;
 mod mapping;
 mod store;
 

@@ -1,7 +1,7 @@
 //! A mapping of a rewriter.
 ghost use Rattle.std.specs.Prelude.{◌≡◌};
 ghost use Rattle.mt_flow.specs.Tied.{lane_age};
-ghost use Rattle.mt_flow.specs.Mappings.{forward_key, reply_key, reversed};
+ghost use Rattle.mt_flow.specs.Mappings.{forward_key, refused_of, reply_key, reversed};
 
 use mt_ledger::PortToken;
 use mt_packet::Flow;
@@ -36,6 +36,18 @@ pub enum OpenFault {
     /// Its reply key stands.
     Clash(Mapping),
     NoMemory(Mapping),
+}
+
+impl OpenFault {
+    /// The mapping that comes back.
+    pub fn into_mapping(self) -> Mapping
+        ensures { result ≡ refused_of self }
+    {
+        match self {
+            OpenFault::Clash(mapping) => mapping,
+            OpenFault::NoMemory(mapping) => mapping,
+        }
+    }
 }
 
 /// A flow with its two ends exchanged.

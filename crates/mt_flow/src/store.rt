@@ -1,12 +1,13 @@
 //! The store of a server.
-ghost use Rattle.std.specs.Prelude.{◌≡◌, ◌∷◌, ◌++◌, ◌↔◌, [], Some, None, Ok, Err, Contains, IfErr, IfSome, IfNone, IsNone, MatchOption, OnErr, OnOk};
+ghost use Rattle.std.specs.Prelude.{◌≡◌, ◌∷◌, ◌++◌, ◌↔◌, [], Some, None, Ok, Err, Contains, filter, take, vec_len, vec_capacity, length, ◌+◌, ◌<◌, ◌≤◌, IfErr, IfOk, IfSome, IfNone, IsNone, MatchOption, OnErr, OnOk};
 ghost use Rattle.std.specs.BTreeMap as tree;
 ghost use Rattle.mt_flow.specs.Indexes.{IsLeft};
 ghost use Rattle.mt_flow.specs.Keys.{forward_cmp, reply_cmp};
-ghost use Rattle.mt_flow.specs.Mappings.{clash_of, forward_key, met_forward, met_reply, refused_of, reply_key, StandsForward, StandsReply};
+ghost use Rattle.mt_flow.specs.Mappings.{AreNew, IsTakenBack, clash_of, forward_key, met_forward, met_reply, refused_of, reply_key, StandsForward, StandsReply};
 ghost use Rattle.mt_flow.specs.Tied.{lane_age};
+ghost use Rattle.mt_flow.specs.Lanes.{is_of, without, IsTaken};
 
-use std::alloc::Global;
+use std::alloc::{AllocError, Global};
 use std::collections::BTreeMap;
 use std::marker::Model;
 
@@ -14,6 +15,7 @@ use mt_packet::Flow;
 
 use crate::indexes::Indexes;
 use crate::keys::{ForwardKey, ReplyKey};
+use crate::lanes::oldest;
 use crate::mapping::{Mapping, Meeting, OpenFault, reversed};
 
 /// The mappings that a server keeps. A contract sees their list, in the order of opening and accepting.
@@ -147,6 +149,79 @@ impl Store {
         take_out(&mut self.by_forward, &mut self.indexes, age, key)
     }
 
+    /// The oldest mapping of some lanes, taken out.
+    fn take_oldest(&mut self, group: u32, buckets: u64) -> Option<Mapping>
+        ensures { MatchOption result (filter (is_of group buckets) self.old ≡ [] × (self.new ≡ self.old))
+            (λ mapping. IsTaken (is_of group buckets) self.old mapping self.new) }
+    {
+        let (age, key) = match oldest(&self.indexes.by_lane, group, buckets) {
+            Some(found) => found,
+            None => return None,
+        };
+        take_out(&mut self.by_forward, &mut self.indexes, age, key)
+    }
+
+    /// The oldest mappings of some lanes, taken out: as many as asked, or all where there are fewer. The
+    /// lanes are those of a group whose buckets, from 0 to 63, the bits mean.
+    pub fn take_lanes(
+        &mut self,
+        group: u32,
+        buckets: u64,
+        most: u32,
+    ) -> Result<Vec<Mapping>, AllocError>
+        ensures taken { IfOk result (λ taken. taken.items ≡ take most (filter (is_of group buckets) self.old)) }
+        ensures left { OnOk result (self.new ≡ without most (is_of group buckets) self.old) }
+        ensures err { OnErr result (self.new ≡ self.old) }
+    {
+        let room = self.indexes.by_age.len().min(most as usize);
+        let mut taken = Vec::with_capacity(self.alloc, room)?;
+        for count in 0..most {
+            match self.take_oldest(group, buckets) {
+                Some(mapping) => push_within(&mut taken, mapping),
+                None => return Ok(taken),
+            }
+        }
+        Ok(taken)
+    }
+
+    /// Takes mappings in behind all others, in their order: all of them, or none where memory is missing.
+    pub fn accept(
+        &mut self,
+        mut mappings: Vec<Mapping>,
+    ) -> Result<(), (AllocError, Vec<Mapping>)>
+        requires { AreNew self.old mappings.items }
+        ensures accepted { OnOk result (self.new ≡ self.old ++ mappings.items) }
+        ensures err { OnErr result (self.new ≡ self.old) }
+        ensures back { IfErr result (λ refused. refused.1.items ≡ mappings.items) }
+    {
+        mappings.reverse();
+        let mut accepted = 0usize;
+        while let Some(mapping) = mappings.pop() {
+            if let Err(fault) = self.open(mapping) {
+                push_within(&mut mappings, fault.into_mapping());
+                self.take_back(accepted, &mut mappings);
+                mappings.reverse();
+                return Err((AllocError, mappings));
+            }
+            accepted += 1;
+        }
+        Ok(())
+    }
+
+    /// The last mappings, taken out, the last first.
+    fn take_back(&mut self, count: usize, mappings: &mut Vec<Mapping>)
+        requires many { count ≤ length self.old }
+        requires room { vec_len mappings.old + count ≤ vec_capacity mappings.old }
+        ensures { IsTakenBack self.old self.new mappings.old.items mappings.new.items count }
+    {
+        for back in 0..count {
+            match self.undo() {
+                Some(mapping) => push_within(mappings, mapping),
+                None => return,
+            }
+        }
+    }
+
     /// The mappings by their forward keys.
     pub fn by_forward(&self) -> &BTreeMap<ForwardKey, Mapping>
         ensures { (key : _) (mapping : _) → (tree.get forward_cmp result.now key ≡ Some mapping) ↔ (Contains self.now mapping × (forward_key mapping ≡ key)) }
@@ -160,4 +235,13 @@ impl Store {
     {
         &self.indexes.by_reply
     }
+}
+
+/// One more mapping, for which there is room.
+fn push_within(mappings: &mut Vec<Mapping>, mapping: Mapping)
+    requires { vec_len mappings.old < vec_capacity mappings.old }
+    ensures items { mappings.new.items ≡ mappings.old.items ++ mapping ∷ [] }
+    ensures capacity { vec_capacity mappings.old ≤ vec_capacity mappings.new }
+{
+    let _ = mappings.push(mapping);
 }
