@@ -1,8 +1,8 @@
 -- Mappings accepted one after the other, and taken back.
-use Rattle.std.proofs.Common.{◌≡◌, ◌∙◌, ℕ, zero, suc, ◌+◌, ◌-◌, ◌<◌, ◌≤◌, List, [], ◌∷◌, ◌++◌, Option, Some, None, length, reverse, option_to_list, sym, ap, refl, subst, arith, length-append, append_assoc, append-nil}
+use Rattle.std.proofs.Common.{◌≡◌, ◌∙◌, ℕ, suc, ◌+◌, ◌≤◌, List, [], ◌∷◌, ◌++◌, length, reverse, sym, ap, refl, subst, arith, length-append, append_assoc, append-nil}
 use Rattle.std.proofs.lemmas.List.{reverse-append, reverse-reverse, length-reverse}
 use Rattle.mt_flow.specs.declared.mapping.Mapping.{Mapping}
-use Rattle.mt_flow.specs.Mappings.{forward_key, reply_key, StandsForward, StandsReply, AreNew, IsTakenBack}
+use Rattle.mt_flow.specs.Mappings.{forward_key, StandsForward, AreNew, IsTakenBack}
 
 pub taken_from : (old before : List Mapping) → IsTakenBack old old before before 0
 taken_from old before = record { moved = []; old_is = sym (append-nil old); after_is = sym (append-nil before); many = refl }
@@ -90,6 +90,7 @@ all_back kept all now less new after count capacity mapping n t =
     let many = next_many kept all now less count capacity mapping n in
     let one = lengths.0 in let two = many.1 in
     let same = same_front kept n.done new t.moved (sym n.now_is ∙ t.old_is) (omega (arith, one, two)) in
-    let after_is : after ≡ (less ++ mapping ∷ []) ++ reverse n.done = t.after_is ∙ ap (λ ms. (less ++ mapping ∷ []) ++ reverse ms) (sym same.1) in
-    ( sym same.0
-    , ap reverse after_is ∙ reverse-append (less ++ mapping ∷ []) (reverse n.done) ∙ ap (λ ms. ms ++ reverse (less ++ mapping ∷ [])) (reverse-reverse n.done) ∙ ap (λ ms. n.done ++ ms) (reverse-append less (mapping ∷ [])) ∙ sym n.all_is)
+    let after_is : after ≡ (less ++ mapping ∷ []) ++ reverse n.done = t.after_is ∙ ap (λ ms. (less ++ mapping ∷ []) ++ reverse ms) (sym same.1) in (
+      sym same.0,
+      ap reverse after_is ∙ reverse-append (less ++ mapping ∷ []) (reverse n.done) ∙ ap (λ ms. ms ++ reverse (less ++ mapping ∷ [])) (reverse-reverse n.done) ∙ ap (λ ms. n.done ++ ms) (reverse-append less (mapping ∷ [])) ∙ sym n.all_is,
+    )

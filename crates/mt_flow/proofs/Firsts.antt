@@ -1,6 +1,5 @@
 -- The first entry of a part of the map of lanes.
-use Rattle.std.proofs.Common.{◌≡◌, ◌≢◌, ◌≤◌, ◌∙◌, ◌⊎◌, ℕ, Option, Some, None, IfSome, IsSome, List, [], ◌∷◌, slice_get, Bool, true, false, sym, ap, subst, refl, is_some, inl, inr, ◌<◌, ◌+◌, leb, arith}
-use Rattle.std.specs.BTreeMap as tree
+use Rattle.std.proofs.Common.{◌≡◌, ◌≢◌, ◌≤◌, ◌∙◌, ◌⊎◌, ℕ, Option, Some, None, IfSome, IsSome, List, [], ◌∷◌, slice_get, true, false, sym, ap, subst, refl, inl, inr, ◌+◌, leb, arith}
 use Rattle.std.specs.Ordering.{is_gt}
 use Rattle.mt_flow.specs.declared.keys.ForwardKey.{ForwardKey}
 use Rattle.mt_flow.specs.declared.keys.LaneAge.{LaneAge}
@@ -59,11 +58,14 @@ skipped lane group buckets bound None h unmeant = λ other k e i. elim (split_in
   | inr here ↦ (let b = ap (λ (p : LaneAge). has_bucket buckets p.bucket) here in let also = i.bucket in absurd cc)
 ]
 skipped lane group buckets bound (Some a) h unmeant = record {
-  place = h.place; age_is = h.age_is; stands = h.stands; within = widen group buckets bound h.place h.within;
+  place = h.place;
+  age_is = h.age_is;
+  stands = h.stands;
+  within = widen group buckets bound h.place h.within;
   first = λ other k e i. elim (split_in group buckets bound other i) [
     | inl earlier ↦ h.first other k e earlier
     | inr here ↦ (let b = ap (λ (p : LaneAge). has_bucket buckets p.bucket) here in let also = i.bucket in absurd cc)
-  ]
+  ];
 }
 
 at_lane : (lane : LaneAge → Option ForwardKey) (group bound : ℕ) (other : LaneAge) (k : ForwardKey) → lane other ≡ Some k → other ≡ lane_at group bound other.age → lane (lane_at group bound other.age) ≡ Some k
@@ -72,22 +74,27 @@ at_lane lane group bound other k e here = ap lane (sym here) ∙ e
 first_in_lane : (lane : LaneAge → Option ForwardKey) (group buckets bound : ℕ) (f : ℕ × ForwardKey) → IsFirst lane group bound f.0 f.1 → has_bucket buckets bound ≡ true
     → ((other : LaneAge) (k : ForwardKey) → lane other ≡ Some k → IsIn group buckets bound other → f.0 ≤ other.age) → IsOldest lane group buckets (bound + 1) f.0 f.1
 first_in_lane lane group buckets bound f h meant earlier = record {
-  place = lane_at group bound f.0; age_is = refl; stands = h.stands;
+  place = lane_at group bound f.0;
+  age_is = refl;
+  stands = h.stands;
   within = record { of_group = refl; below = omega arith; bucket = meant };
   first = λ other k e i. elim (split_in group buckets bound other i) [
     | inl before ↦ earlier other k e before
     | inr here ↦ h.first other.age k (at_lane lane group bound other k e here)
-  ]
+  ];
 }
 
 still_oldest : (lane : LaneAge → Option ForwardKey) (group buckets bound : ℕ) (a : ℕ × ForwardKey) → IsOldest lane group buckets bound a.0 a.1
     → ((other : ℕ) (k : ForwardKey) → lane (lane_at group bound other) ≡ Some k → a.0 ≤ other) → IsOldest lane group buckets (bound + 1) a.0 a.1
 still_oldest lane group buckets bound a h later = record {
-  place = h.place; age_is = h.age_is; stands = h.stands; within = widen group buckets bound h.place h.within;
+  place = h.place;
+  age_is = h.age_is;
+  stands = h.stands;
+  within = widen group buckets bound h.place h.within;
   first = λ other k e i. elim (split_in group buckets bound other i) [
     | inl before ↦ h.first other k e before
     | inr here ↦ later other.age k (at_lane lane group bound other k e here)
-  ]
+  ];
 }
 
 pub looked_at : (lane : LaneAge → Option ForwardKey) (group buckets bound : ℕ) (best found : Option (ℕ × ForwardKey)) → IsFound lane group buckets bound best → IsFirstOf lane group bound found → has_bucket buckets bound ≡ true

@@ -1,5 +1,5 @@
 -- The maps stay tied as a mapping is opened and as one is taken out.
-use Rattle.std.proofs.Common.{◌≡◌, ◌≢◌, ◌⊎◌, ◌∙◌, ℕ, zero, suc, ◌+◌, ◌<◌, ◌≤◌, List, [], ◌∷◌, ◌++◌, Option, Some, None, Contains, sym, ap, refl, subst, inl, inr, arith, Ordering, Equal, Greater}
+use Rattle.std.proofs.Common.{◌≡◌, ◌≢◌, ◌⊎◌, ◌∙◌, ℕ, suc, ◌<◌, ◌≤◌, List, [], ◌∷◌, ◌++◌, Option, Some, None, Contains, sym, ap, refl, subst, inl, inr, arith, Equal, Greater}
 use Rattle.std.specs.BTreeMap as tree
 use Rattle.std.specs.Map.{remove_entry}
 use Rattle.std.specs.Ordering.{nat_cmp}
@@ -12,7 +12,7 @@ use Rattle.mt_flow.specs.declared.keys.LaneAge.{LaneAge}
 use Rattle.mt_flow.specs.declared.mapping.Mapping.{Mapping}
 use Rattle.mt_flow.specs.Mappings.{forward_key, reply_key}
 use Rattle.mt_flow.specs.Tied.{IsTied, IsRising, lane_age, listed, with_found}
-use Rattle.mt_flow.proofs.Orders.{IsExact, IsUpdate, one_or_apart, forward_exact, reply_exact, lane_exact, rising_ends}
+use Rattle.mt_flow.proofs.Orders.{IsUpdate, one_or_apart, forward_exact, reply_exact, lane_exact, rising_ends}
 
 abbrev Forward : Type 0
 Forward = ForwardKey → Option Mapping
@@ -67,9 +67,10 @@ tied_opened order forward forward' reply reply' lane lane' next new t rising abs
   ];
   lane_of = λ place key e. elim (one_or_apart lane_exact place (lane_age new next)) [
     | inl one ↦ (let same : forward_key new ≡ key = one_found (lane' (lane_age new next)) (forward_key new) key l.here (ap lane' (sym one) ∙ e) in
-        let age : place.age ≡ next = ap (λ (p : LaneAge). p.age) one in
-        ( subst (λ (p : ℕ × ForwardKey). Contains (order ++ (next, forward_key new) ∷ []) p) (let pair : (next, forward_key new) ≡ (place.age, key) = cc in pair) (Contains-append_right order ((next, forward_key new) ∷ []) (next, forward_key new) (first_in (next, forward_key new) []))
-        , (new, (ap forward' (sym same) ∙ f.here, ap (lane_age new) age ∙ sym one))))
+        let age : place.age ≡ next = ap (λ (p : LaneAge). p.age) one in (
+          subst (λ (p : ℕ × ForwardKey). Contains (order ++ (next, forward_key new) ∷ []) p) (let pair : (next, forward_key new) ≡ (place.age, key) = cc in pair) (Contains-append_right order ((next, forward_key new) ∷ []) (next, forward_key new) (first_in (next, forward_key new) [])),
+          (new, (ap forward' (sym same) ∙ f.here, ap (lane_age new) age ∙ sym one)),
+        ))
     | inr two ↦ (let h = t.lane_of place key (sym (l.apart place two) ∙ e) in
         (Contains-append_left order ((next, forward_key new) ∷ []) (place.age, key) h.0, (h.1.0, (f.apart key (found_apart forward key (forward_key new) h.1.0 h.1.1.0 absent) ∙ h.1.1.0, h.1.1.1))))
   ];
@@ -97,20 +98,20 @@ pub tied_left : (order less : List (ℕ × ForwardKey)) (forward forward' : Forw
 tied_left order less forward forward' reply reply' lane lane' age key gone t stands found sub sup f r l = record {
   has_mapping = λ other k c. let s = sub (other, k) c in let h = t.has_mapping other k s.0 in (h.0, (f.apart k (key_apart other k c) ∙ h.1.0, h.1.1));
   has_age = λ k mapping e. let two = found_apart forward' k key mapping e f.here in let h = t.has_age k mapping (sym (f.apart k two) ∙ e) in
-    (h.0, sup h.0 k h.1 two);
+      (h.0, sup h.0 k h.1 two);
   one_age = λ one other k c d. t.one_age one other k (sub (one, k) c).0 (sub (other, k) d).0;
   reply_of = λ answer k e. let two = found_apart reply' answer (reply_key gone) k e r.here in let h = t.reply_of answer k (sym (r.apart answer two) ∙ e) in
-    (h.0, (f.apart k (λ one. let same : gone ≡ h.0 = one_found (forward key) gone h.0 found (ap forward (sym one) ∙ h.1.0) in two (sym h.1.1 ∙ ap (λ (m : Mapping). reply_key m) (sym same))) ∙ h.1.0, h.1.1));
+      (h.0, (f.apart k (λ one. let same : gone ≡ h.0 = one_found (forward key) gone h.0 found (ap forward (sym one) ∙ h.1.0) in two (sym h.1.1 ∙ ap (λ (m : Mapping). reply_key m) (sym same))) ∙ h.1.0, h.1.1));
   has_reply = λ k mapping e. let two = found_apart forward' k key mapping e f.here in let h = t.has_reply k mapping (sym (f.apart k two) ∙ e) in
-    r.apart (reply_key mapping) (λ one. let other = t.has_reply key gone found in two (one_found (reply (reply_key gone)) k key (ap reply (sym one) ∙ h) other)) ∙ h;
+      r.apart (reply_key mapping) (λ one. let other = t.has_reply key gone found in two (one_found (reply (reply_key gone)) k key (ap reply (sym one) ∙ h) other)) ∙ h;
   lane_of = λ place k e. let two = found_apart lane' place (lane_age gone age) k e l.here in let h = t.lane_of place k (sym (l.apart place two) ∙ e) in
-    let apart : k ≢ key = λ one.
+      let apart : k ≢ key = λ one.
       let same : gone ≡ h.1.0 = one_found (forward key) gone h.1.0 found (ap forward (sym one) ∙ h.1.1.0) in
       let aged : place.age ≡ age = t.one_age place.age age key (subst (λ x. Contains order (place.age, x)) one h.0) stands in
       two (sym h.1.1.1 ∙ ap (λ (m : Mapping). lane_age m place.age) (sym same) ∙ ap (lane_age gone) aged) in
-    (sup place.age k h.0 apart, (h.1.0, (f.apart k apart ∙ h.1.1.0, h.1.1.1)));
+      (sup place.age k h.0 apart, (h.1.0, (f.apart k apart ∙ h.1.1.0, h.1.1.1)));
   has_lane = λ other k mapping c e. let s = sub (other, k) c in let found_here = t.has_lane other k mapping s.0 (sym (f.apart k (key_apart other k c)) ∙ e) in
-    l.apart (lane_age mapping other) (λ one. s.1 (ap (λ (p : LaneAge). p.age) one)) ∙ found_here;
+      l.apart (lane_age mapping other) (λ one. s.1 (ap (λ (p : LaneAge). p.age) one)) ∙ found_here;
 } where
   key_apart : (other : ℕ) (k : ForwardKey) → Contains less (other, k) → k ≢ key
   key_apart other k c one = let s = sub (other, k) c in s.1 (t.one_age other age key (subst (λ x. Contains order (other, x)) one s.0) stands)

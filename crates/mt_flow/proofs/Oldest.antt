@@ -1,22 +1,21 @@
 -- The oldest mapping of some lanes, and the list without it.
-use Rattle.std.proofs.Common.{◌≡◌, ◌≢◌, ◌⊎◌, ◌∙◌, ℕ, zero, suc, ◌+◌, ◌-◌, ◌<◌, ◌≤◌, min, List, [], ◌∷◌, ◌++◌, Option, Some, None, IfSome, Contains, Bool, true, false, cond, eqb, ltb, filter, length, take, drop, sym, ap, refl, subst, inl, inr, arith, add-one, length-append, length-take, length-drop, MatchOption}
+use Rattle.std.proofs.Common.{◌≡◌, ◌⊎◌, ◌∙◌, ℕ, zero, suc, ◌+◌, ◌<◌, ◌≤◌, List, [], ◌∷◌, ◌++◌, Option, Some, None, IfSome, Contains, Bool, true, false, eqb, ltb, filter, length, take, drop, sym, ap, refl, subst, inl, inr, arith, add-one, length-append}
 use Rattle.std.specs.BTreeMap as tree
 use Rattle.std.proofs.lemmas.Bool.Decides.{nat_tests}
-use Rattle.std.proofs.lemmas.List.Elements.{Contains-append_left, Contains-append_right, Contains-append_cases}
+use Rattle.std.proofs.lemmas.List.Elements.{Contains-append_left}
 use Rattle.mt_lists.proofs.Bools.{and_first, and_second}
-use Rattle.mt_lists.proofs.Members.{first_in, later_in, cases_in, none_in}
+use Rattle.mt_lists.proofs.Members.{first_in, later_in}
 use Rattle.mt_flow.specs.declared.keys.ForwardKey.{ForwardKey}
-use Rattle.mt_flow.specs.declared.keys.ReplyKey.{ReplyKey}
 use Rattle.mt_flow.specs.declared.keys.LaneAge.{LaneAge}
 use Rattle.mt_flow.specs.declared.mapping.Mapping.{Mapping}
 use Rattle.mt_flow.specs.declared.indexes.Indexes.{Indexes}
 use Rattle.mt_flow.specs.Indexes.{IsLeft}
-use Rattle.mt_flow.specs.Keys.{forward_cmp, reply_cmp, lane_cmp}
+use Rattle.mt_flow.specs.Keys.{forward_cmp, lane_cmp}
 use Rattle.mt_flow.specs.Lanes.{is_of, has_bucket, without, IsTaken, IsIn, IsOldest}
-use Rattle.mt_flow.specs.Mappings.{forward_key, reply_key}
-use Rattle.mt_flow.specs.Tied.{IsTied, IsRising, lane_age, listed, with_found}
-use Rattle.mt_flow.proofs.Kept.{IsCut, cut, split_at, aged_of}
-use Rattle.mt_flow.proofs.Stored.{ForwardMap, AllTied, list_of, HasLeft, left_all}
+use Rattle.mt_flow.specs.Mappings.{reply_key}
+use Rattle.mt_flow.specs.Tied.{IsRising, lane_age, listed, with_found}
+use Rattle.mt_flow.proofs.Kept.{cut, split_at, aged_of}
+use Rattle.mt_flow.proofs.Stored.{ForwardMap, AllTied, list_of, left_all}
 
 eqb_same : (m n : ℕ) → eqb m n ≡ true → m ≡ n
 eqb_same m n e = grind (arith, nat_tests)
@@ -76,19 +75,24 @@ oldest_gone old new before after next group buckets age key result tied rising o
     let s = split_at before.by_age.entries (age, key) stands in
     let c = cut 0 next s.0 s.1.0 age key (subst (λ es. IsRising 0 next es) s.1.1 rising) in
     let left = left_all old new before after next age key m s.0 s.1.0 tied rising s.1.1 lane.1.1.0
-      (subst (λ r. IfSome r (λ _. tree.Updates forward_cmp old new key None)) is f) (subst (λ r. IfSome r (λ mapping. IsLeft before after (reply_key mapping) (lane_age mapping age))) is l) in
+    (subst (λ r. IfSome r (λ _. tree.Updates forward_cmp old new key None)) is f) (subst (λ r. IfSome r (λ mapping. IsLeft before after (reply_key mapping) (lane_age mapping age))) is l) in
     record {
-      gone = m; is = is; tied = left.tied; rising = left.rising;
+      gone = m;
+      is = is;
+      tied = left.tied;
+      rising = left.rising;
       taken = record {
-        front = listed (tree.get forward_cmp old) s.0; back = listed (tree.get forward_cmp old) s.1.0;
-        old_is = left.listed_before; new_is = left.listed_after;
+        front = listed (tree.get forward_cmp old) s.0;
+        back = listed (tree.get forward_cmp old) s.1.0;
+        old_is = left.listed_before;
+        new_is = left.listed_after;
         passes = is_of_lanes group buckets 64 m (ap (λ (p : LaneAge). p.group) lane.1.1.1 ∙ o.within.of_group) (ap (λ (p : LaneAge). has_bucket buckets p.bucket) lane.1.1.1 ∙ o.within.bucket);
         none_before = filter_none (is_of group buckets) (listed (tree.get forward_cmp old) s.0) (λ other d passes.
-          let a = aged_of (tree.get forward_cmp old) s.0 other d in
-          let there : Contains before.by_age.entries (a.0, a.1.0) = subst (λ es. Contains es (a.0, a.1.0)) (sym s.1.1) (Contains-append_left s.0 ((age, key) ∷ s.1.0) (a.0, a.1.0) a.1.1.0) in
-          let up = o.first (lane_age other a.0) a.1.0 (tied.has_lane a.0 a.1.0 other there a.1.1.1) (is_in_lanes group buckets a.0 other passes) in
-          let down = c.earlier a.0 a.1.0 a.1.1.0 in
-          omega (arith, up, down));
+            let a = aged_of (tree.get forward_cmp old) s.0 other d in
+            let there : Contains before.by_age.entries (a.0, a.1.0) = subst (λ es. Contains es (a.0, a.1.0)) (sym s.1.1) (Contains-append_left s.0 ((age, key) ∷ s.1.0) (a.0, a.1.0) a.1.1.0) in
+            let up = o.first (lane_age other a.0) a.1.0 (tied.has_lane a.0 a.1.0 other there a.1.1.1) (is_in_lanes group buckets a.0 other passes) in
+            let down = c.earlier a.0 a.1.0 a.1.1.0 in
+            omega (arith, up, down));
       };
     }
 
@@ -176,9 +180,10 @@ without_enough test (suc count) (suc most) (x ∷ xs) e le = elim (either (test 
 ]
 
 pub taking_ends : (test : Mapping → Bool) (old now taken : List Mapping) (count most : ℕ) → IsTaking test old now taken count → filter test now ≡ [] → count ≤ most → (taken ≡ take most (filter test old)) × (now ≡ without most test old)
-taking_ends test old now taken count most t none le =
-    ( t.items ∙ drop_none (filter test old) count most (sym t.rest ∙ none) le
-    , t.left ∙ sym (without_enough test count most old (subst (λ ms. filter test ms ≡ []) t.left none) le))
+taking_ends test old now taken count most t none le = (
+  t.items ∙ drop_none (filter test old) count most (sym t.rest ∙ none) le,
+  t.left ∙ sym (without_enough test count most old (subst (λ ms. filter test ms ≡ []) t.left none) le),
+)
 
 -- the list is no longer than the order
 length_found : (o : Option Mapping) (ms : List Mapping) → length (with_found o ms) ≤ suc (length ms)

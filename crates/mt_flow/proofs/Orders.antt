@@ -1,5 +1,5 @@
 -- Keys that compare as equal are one key, and what an update of a map leaves.
-use Rattle.std.proofs.Common.{◌≡◌, ◌≢◌, ◌⊎◌, ◌∙◌, ℕ, zero, suc, ◌+◌, ◌<◌, ◌≤◌, List, [], ◌∷◌, ◌++◌, Option, Some, None, Contains, Bool, true, false, cond, Ordering, Less, Equal, Greater, sym, ap, refl, subst, inl, inr, arith}
+use Rattle.std.proofs.Common.{◌≡◌, ◌≢◌, ◌⊎◌, ◌∙◌, ℕ, suc, ◌<◌, ◌≤◌, List, [], ◌∷◌, ◌++◌, Option, None, false, Ordering, Less, Equal, Greater, sym, ap, refl, inl, inr, arith}
 use Rattle.std.specs.BTreeMap as tree
 use Rattle.std.specs.Cmp.{IsTotalOrder}
 use Rattle.std.specs.Ordering.{nat_cmp, ordering_then, is_eq, is_gt}
@@ -57,25 +57,25 @@ flow_same x y e =
 pub forward_exact : IsExact forward_cmp
 forward_exact = record {
   total = then_total (on_total (λ (k : ForwardKey). k.element) nat_cmp_total) (then_total (on_total (λ (k : ForwardKey). k.input) nat_cmp_total) (on_total (λ (k : ForwardKey). k.before) flow_total));
-  same = λ x y e. let a = then_equal _ _ e in let b = then_equal _ _ a.1 in 
-    let p : x.element ≡ y.element = nat_same x.element y.element a.0 in let q : x.input ≡ y.input = nat_same x.input y.input b.0 in let r : x.before ≡ y.before = flow_same x.before y.before b.1 in
-    let whole : forward_of x.element x.input x.before ≡ forward_of y.element y.input y.before = cc in whole
+  same = λ x y e. let a = then_equal _ _ e in let b = then_equal _ _ a.1 in
+      let p : x.element ≡ y.element = nat_same x.element y.element a.0 in let q : x.input ≡ y.input = nat_same x.input y.input b.0 in let r : x.before ≡ y.before = flow_same x.before y.before b.1 in
+      let whole : forward_of x.element x.input x.before ≡ forward_of y.element y.input y.before = cc in whole;
 }
 
 pub reply_exact : IsExact reply_cmp
 reply_exact = record {
   total = then_total (on_total (λ (k : ReplyKey). k.element) nat_cmp_total) (on_total (λ (k : ReplyKey). k.flow) flow_total);
-  same = λ x y e. let a = then_equal _ _ e in 
-    let p : x.element ≡ y.element = nat_same x.element y.element a.0 in let q : x.flow ≡ y.flow = flow_same x.flow y.flow a.1 in
-    let whole : reply_from x.element x.flow ≡ reply_from y.element y.flow = cc in whole
+  same = λ x y e. let a = then_equal _ _ e in
+      let p : x.element ≡ y.element = nat_same x.element y.element a.0 in let q : x.flow ≡ y.flow = flow_same x.flow y.flow a.1 in
+      let whole : reply_from x.element x.flow ≡ reply_from y.element y.flow = cc in whole;
 }
 
 pub lane_exact : IsExact lane_cmp
 lane_exact = record {
   total = then_total (on_total (λ (k : LaneAge). k.group) nat_cmp_total) (then_total (on_total (λ (k : LaneAge). k.bucket) nat_cmp_total) (on_total (λ (k : LaneAge). k.age) nat_cmp_total));
-  same = λ x y e. let a = then_equal _ _ e in let b = then_equal _ _ a.1 in 
-    let p : x.group ≡ y.group = nat_same x.group y.group a.0 in let q : x.bucket ≡ y.bucket = nat_same x.bucket y.bucket b.0 in let r : x.age ≡ y.age = nat_same x.age y.age b.1 in
-    let whole : lane_from x.group x.bucket x.age ≡ lane_from y.group y.bucket y.age = cc in whole
+  same = λ x y e. let a = then_equal _ _ e in let b = then_equal _ _ a.1 in
+      let p : x.group ≡ y.group = nat_same x.group y.group a.0 in let q : x.bucket ≡ y.bucket = nat_same x.bucket y.bucket b.0 in let r : x.age ≡ y.age = nat_same x.age y.age b.1 in
+      let whole : lane_from x.group x.bucket x.age ≡ lane_from y.group y.bucket y.age = cc in whole;
 }
 
 -- two keys are one, or they are apart
@@ -122,7 +122,6 @@ entered_last least age key (first ∷ order) h =
     let above : nat_cmp age first.0 ≡ Greater = grind (arith, nat_tests, below) in
     rw above (ap (λ rest. first ∷ rest) (entered_last (suc first.0) age key order h.1))
 
-
 pub same_found : {K X : Type 0} (cmp : K → K → Ordering) (old new : tree.BTreeMap K X) → new.entries ≡ old.entries → (key : K) → tree.get cmp new key ≡ tree.get cmp old key
 same_found cmp old new same key = ap (lookup (tree.is_at (cmp key))) same
 
@@ -168,12 +167,15 @@ lane_between group bucket age other place above below =
       ]
       | inr one ↦ elim (then_up_to (nat_cmp place.group group) (ordering_then (nat_cmp place.bucket bucket) (nat_cmp place.age other)) below) [
         | inl more ↦ absurd (let a = nat_same group place.group one.0 in let b = nat_less place.group group more in omega (arith, a, b))
-        | inr same ↦ (nat_same place.group group same.0, elim (then_up_to (nat_cmp bucket place.bucket) (nat_cmp age place.age) one.1) [
-          | inl up ↦ elim (then_up_to (nat_cmp place.bucket bucket) (nat_cmp place.age other) same.1) [
-            | inl down ↦ absurd (let a = nat_less bucket place.bucket up in let b = nat_less place.bucket bucket down in omega (arith, a, b))
-            | inr level ↦ absurd (let a = nat_less bucket place.bucket up in let b = nat_same place.bucket bucket level.0 in omega (arith, a, b))
-          ]
-          | inr up ↦ sym (nat_same bucket place.bucket up.0)
-        ])
+        | inr same ↦ (
+          nat_same place.group group same.0,
+          elim (then_up_to (nat_cmp bucket place.bucket) (nat_cmp age place.age) one.1) [
+            | inl up ↦ elim (then_up_to (nat_cmp place.bucket bucket) (nat_cmp place.age other) same.1) [
+              | inl down ↦ absurd (let a = nat_less bucket place.bucket up in let b = nat_less place.bucket bucket down in omega (arith, a, b))
+              | inr level ↦ absurd (let a = nat_less bucket place.bucket up in let b = nat_same place.bucket bucket level.0 in omega (arith, a, b))
+            ]
+            | inr up ↦ sym (nat_same bucket place.bucket up.0)
+          ],
+        )
       ]
     ]

@@ -1,10 +1,10 @@
 -- The store's maps as a whole: what a mapping opened and a mapping taken out leave.
-use Rattle.std.proofs.Common.{◌≡◌, ◌≢◌, ◌⊎◌, ◌∙◌, ◌↔◌, ℕ, zero, suc, ◌+◌, ◌<◌, ◌≤◌, List, [], ◌∷◌, ◌++◌, Option, Some, None, Contains, sym, ap, refl, subst, inl, inr, arith, append-nil, Bool, true, false, is_some, slice_get, length, IfSome, ◌-◌}
+use Rattle.std.proofs.Common.{◌≡◌, ◌≢◌, ◌∙◌, ◌↔◌, ℕ, suc, ◌+◌, List, [], ◌∷◌, ◌++◌, Option, Some, None, Contains, sym, ap, refl, subst, inl, inr, arith, append-nil, true, false, is_some, slice_get, length, IfSome, ◌-◌}
 use Rattle.std.specs.BTreeMap as tree
 use Rattle.std.specs.Map.{remove_entry}
 use Rattle.std.specs.Ordering.{nat_cmp}
 use Rattle.std.proofs.lemmas.List.Elements.{Contains-append_left, Contains-append_right, Contains-append_cases}
-use Rattle.mt_lists.proofs.Members.{first_in, later_in, cases_in, none_in}
+use Rattle.mt_lists.proofs.Members.{first_in, later_in, cases_in}
 use Rattle.mt_flow.specs.declared.keys.ForwardKey.{ForwardKey}
 use Rattle.mt_flow.specs.declared.keys.ReplyKey.{ReplyKey}
 use Rattle.mt_flow.specs.declared.keys.LaneAge.{LaneAge}
@@ -14,7 +14,7 @@ use Rattle.mt_flow.specs.Indexes.{IsEntered, IsLeft, IsAsBefore}
 use Rattle.mt_flow.specs.Keys.{forward_cmp, reply_cmp, lane_cmp}
 use Rattle.mt_flow.specs.Mappings.{forward_key, reply_key, StandsForward, StandsReply}
 use Rattle.mt_flow.specs.Tied.{IsTied, IsRising, lane_age, listed, with_found}
-use Rattle.mt_flow.proofs.Orders.{forward_exact, reply_exact, lane_exact, update_of, rising_ends, restored}
+use Rattle.mt_flow.proofs.Orders.{forward_exact, reply_exact, lane_exact, update_of, restored}
 use Rattle.mt_flow.proofs.Kept.{tied_opened, tied_left, cut, listed-append, listed_same, listed_one, aged_of, listed_of, age_below}
 
 abbrev pub ForwardMap : Type 0
@@ -54,23 +54,23 @@ left_all old new before after next age key gone front back tied rising order fou
     let after_is : after.by_age.entries ≡ front ++ back = l.order ∙ ap (λ es. remove_entry (tree.is_at (nat_cmp age)) es) order ∙ c.removed in
     let update = update_of forward_exact old new key None f in
     let other_keys : (other : ℕ) (k : ForwardKey) → Contains (front ++ back) (other, k) → Contains (front ++ (age, key) ∷ back) (other, k) × (other ≢ age) =
-      λ other k in_less. elim (Contains-append_cases front back (other, k) in_less) [
-        | inl earlier ↦ (Contains-append_left front ((age, key) ∷ back) (other, k) earlier, λ same. let lt = c.earlier other k earlier in omega (arith, same, lt))
-        | inr later ↦ (Contains-append_right front ((age, key) ∷ back) (other, k) (later_in (age, key) back (other, k) later), λ same. let lt = c.later other k later in omega (arith, same, lt))
-      ] in
+    λ other k in_less. elim (Contains-append_cases front back (other, k) in_less) [
+      | inl earlier ↦ (Contains-append_left front ((age, key) ∷ back) (other, k) earlier, λ same. let lt = c.earlier other k earlier in omega (arith, same, lt))
+      | inr later ↦ (Contains-append_right front ((age, key) ∷ back) (other, k) (later_in (age, key) back (other, k) later), λ same. let lt = c.later other k later in omega (arith, same, lt))
+    ] in
     let order_tied : IsTied (front ++ (age, key) ∷ back) (tree.get forward_cmp old) (tree.get reply_cmp before.by_reply) (tree.get lane_cmp before.by_lane) =
-      subst (λ es. IsTied es (tree.get forward_cmp old) (tree.get reply_cmp before.by_reply) (tree.get lane_cmp before.by_lane)) order tied in
+    subst (λ es. IsTied es (tree.get forward_cmp old) (tree.get reply_cmp before.by_reply) (tree.get lane_cmp before.by_lane)) order tied in
     let stands = Contains-append_right front ((age, key) ∷ back) (age, key) (first_in (age, key) back) in
     let stay : (other : ℕ) (k : ForwardKey) → Contains (front ++ back) (other, k) → tree.get forward_cmp new k ≡ tree.get forward_cmp old k =
-      λ other k in_less. let o = other_keys other k in_less in update.apart k (λ one. o.1 (order_tied.one_age other age key (subst (λ x. Contains (front ++ (age, key) ∷ back) (other, x)) one o.0) stands)) in
+    λ other k in_less. let o = other_keys other k in_less in update.apart k (λ one. o.1 (order_tied.one_age other age key (subst (λ x. Contains (front ++ (age, key) ∷ back) (other, x)) one o.0) stands)) in
     record {
       tied = subst (λ es. IsTied es (tree.get forward_cmp new) (tree.get reply_cmp after.by_reply) (tree.get lane_cmp after.by_lane)) (sym after_is)
-        (tied_left (front ++ (age, key) ∷ back) (front ++ back) (tree.get forward_cmp old) (tree.get forward_cmp new) (tree.get reply_cmp before.by_reply) (tree.get reply_cmp after.by_reply) (tree.get lane_cmp before.by_lane) (tree.get lane_cmp after.by_lane)
+          (tied_left (front ++ (age, key) ∷ back) (front ++ back) (tree.get forward_cmp old) (tree.get forward_cmp new) (tree.get reply_cmp before.by_reply) (tree.get reply_cmp after.by_reply) (tree.get lane_cmp before.by_lane) (tree.get lane_cmp after.by_lane)
           age key gone order_tied stands found (λ aged in_less. other_keys aged.0 aged.1 in_less) (keeps_others front back age key)
           update (update_of reply_exact before.by_reply after.by_reply (reply_key gone) None l.reply) (update_of lane_exact before.by_lane after.by_lane (lane_age gone age) None l.lane));
       rising = subst (λ es. IsRising 0 next es) (sym after_is) c.rising;
       listed_before = ap (listed (tree.get forward_cmp old)) order ∙ listed-append (tree.get forward_cmp old) front ((age, key) ∷ back)
-        ∙ ap (λ o. listed (tree.get forward_cmp old) front ++ with_found o (listed (tree.get forward_cmp old) back)) found;
+          ∙ ap (λ o. listed (tree.get forward_cmp old) front ++ with_found o (listed (tree.get forward_cmp old) back)) found;
       listed_after = ap (listed (tree.get forward_cmp new)) after_is ∙ listed_same (tree.get forward_cmp old) (tree.get forward_cmp new) (front ++ back) stay ∙ listed-append (tree.get forward_cmp old) front back;
     }
 
@@ -88,13 +88,13 @@ opened_all old new before after next opened tied rising absent unmet f e =
     let update = update_of forward_exact old new (forward_key opened) (Some opened) f in
     record {
       tied = subst (λ es. IsTied es (tree.get forward_cmp new) (tree.get reply_cmp after.by_reply) (tree.get lane_cmp after.by_lane)) (sym e.order)
-        (tied_opened before.by_age.entries (tree.get forward_cmp old) (tree.get forward_cmp new) (tree.get reply_cmp before.by_reply) (tree.get reply_cmp after.by_reply) (tree.get lane_cmp before.by_lane) (tree.get lane_cmp after.by_lane)
+          (tied_opened before.by_age.entries (tree.get forward_cmp old) (tree.get forward_cmp new) (tree.get reply_cmp before.by_reply) (tree.get reply_cmp after.by_reply) (tree.get lane_cmp before.by_lane) (tree.get lane_cmp after.by_lane)
           next opened tied rising absent unmet update (update_of reply_exact before.by_reply after.by_reply (reply_key opened) (Some (forward_key opened)) e.reply) (update_of lane_exact before.by_lane after.by_lane (lane_age opened next) (Some (forward_key opened)) e.lane));
       rising = subst (λ es. IsRising 0 (next + 1) es) (sym e.order) (rising_more 0 next (forward_key opened) before.by_age.entries rising);
       listed_after = ap (listed (tree.get forward_cmp new)) e.order ∙ listed-append (tree.get forward_cmp new) before.by_age.entries ((next, forward_key opened) ∷ [])
-        ∙ ap (λ ms. ms ++ listed (tree.get forward_cmp new) ((next, forward_key opened) ∷ [])) (listed_same (tree.get forward_cmp old) (tree.get forward_cmp new) before.by_age.entries
-            (λ age key c. let h = tied.has_mapping age key c in update.apart key (λ one. let none : tree.get forward_cmp old key ≡ None = ap (tree.get forward_cmp old) one ∙ absent in let some = h.1.0 in absurd cc)))
-        ∙ ap (λ ms. listed (tree.get forward_cmp old) before.by_age.entries ++ ms) (listed_one (tree.get forward_cmp new) next (forward_key opened) opened update.here);
+          ∙ ap (λ ms. ms ++ listed (tree.get forward_cmp new) ((next, forward_key opened) ∷ [])) (listed_same (tree.get forward_cmp old) (tree.get forward_cmp new) before.by_age.entries
+          (λ age key c. let h = tied.has_mapping age key c in update.apart key (λ one. let none : tree.get forward_cmp old key ≡ None = ap (tree.get forward_cmp old) one ∙ absent in let some = h.1.0 in absurd cc)))
+          ∙ ap (λ ms. listed (tree.get forward_cmp old) before.by_age.entries ++ ms) (listed_one (tree.get forward_cmp new) next (forward_key opened) opened update.here);
     }
 
 -- refused: all is found as before
@@ -117,19 +117,21 @@ same_list old new before after f s = ap (listed (tree.get forward_cmp new)) s.or
 -- a key stands among the mappings exactly where it is found
 pub forward_found : (by_forward : ForwardMap) (indexes : Indexes) (key : ForwardKey) (mapping : Mapping) → AllTied by_forward indexes
     → (tree.get forward_cmp by_forward key ≡ Some mapping) ↔ (Contains (list_of by_forward indexes) mapping × (forward_key mapping ≡ key))
-forward_found by_forward indexes key mapping t =
-    ( λ e. let a = t.has_age key mapping e in let h = t.has_mapping a.0 key a.1 in
-        let same : h.0 ≡ mapping = (let p = h.1.0 in cc) in
-        (listed_of (tree.get forward_cmp by_forward) indexes.by_age.entries a.0 key mapping a.1 e, ap forward_key (sym same) ∙ h.1.1)
-    , λ c. let a = aged_of (tree.get forward_cmp by_forward) indexes.by_age.entries mapping c.0 in let h = t.has_mapping a.0 a.1.0 a.1.1.0 in
-        let same : h.0 ≡ mapping = (let p = h.1.0 in let q = a.1.1.1 in cc) in
-        ap (tree.get forward_cmp by_forward) (sym c.1 ∙ ap forward_key (sym same) ∙ h.1.1) ∙ a.1.1.1)
+forward_found by_forward indexes key mapping t = (
+  λ e. let a = t.has_age key mapping e in let h = t.has_mapping a.0 key a.1 in
+      let same : h.0 ≡ mapping = (let p = h.1.0 in cc) in
+      (listed_of (tree.get forward_cmp by_forward) indexes.by_age.entries a.0 key mapping a.1 e, ap forward_key (sym same) ∙ h.1.1),
+  λ c. let a = aged_of (tree.get forward_cmp by_forward) indexes.by_age.entries mapping c.0 in let h = t.has_mapping a.0 a.1.0 a.1.1.0 in
+      let same : h.0 ≡ mapping = (let p = h.1.0 in let q = a.1.1.1 in cc) in
+      ap (tree.get forward_cmp by_forward) (sym c.1 ∙ ap forward_key (sym same) ∙ h.1.1) ∙ a.1.1.1,
+)
 
 pub reply_found : (by_forward : ForwardMap) (indexes : Indexes) (answer : ReplyKey) (key : ForwardKey) → AllTied by_forward indexes
     → (tree.get reply_cmp indexes.by_reply answer ≡ Some key) ↔ ((mapping : Mapping) × (Contains (list_of by_forward indexes) mapping × (reply_key mapping ≡ answer) × (forward_key mapping ≡ key)))
-reply_found by_forward indexes answer key t =
-    ( λ e. let h = t.reply_of answer key e in let f = (forward_found by_forward indexes key h.0 t).0 h.1.0 in (h.0, (f.0, h.1.1, f.1))
-    , λ s. let found = (forward_found by_forward indexes key s.0 t).1 (s.1.0, s.1.2) in ap (tree.get reply_cmp indexes.by_reply) (sym s.1.1) ∙ t.has_reply key s.0 found)
+reply_found by_forward indexes answer key t = (
+  λ e. let h = t.reply_of answer key e in let f = (forward_found by_forward indexes key h.0 t).0 h.1.0 in (h.0, (f.0, h.1.1, f.1)),
+  λ s. let found = (forward_found by_forward indexes key s.0 t).1 (s.1.0, s.1.2) in ap (tree.get reply_cmp indexes.by_reply) (sym s.1.1) ∙ t.has_reply key s.0 found,
+)
 
 none_unless : {X : Type 0} (o : Option X) → ((x : X) → o ≡ Some x → ⊥) → o ≡ None
 none_unless None h = refl
@@ -169,7 +171,7 @@ left_again a b c answer place key no_reply no_lane rising e l = record {
   reply = restored reply_exact a.by_reply b.by_reply c.by_reply answer (Some key) no_reply e.reply l.reply;
   lane = restored lane_exact a.by_lane b.by_lane c.by_lane place (Some key) no_lane e.lane l.lane;
   order = l.order ∙ ap (λ es. remove_entry (tree.is_at (nat_cmp place.age)) es) e.order
-    ∙ (cut 0 (place.age + 1) a.by_age.entries [] place.age key (rising_more 0 place.age key a.by_age.entries rising)).removed ∙ append-nil a.by_age.entries;
+      ∙ (cut 0 (place.age + 1) a.by_age.entries [] place.age key (rising_more 0 place.age key a.by_age.entries rising)).removed ∙ append-nil a.by_age.entries;
 }
 
 last_is : {X : Type 0} (xs : List X) (x : X) → slice_get xs (length xs - 1) ≡ Some x → (front : List X) × (xs ≡ front ++ x ∷ [])
@@ -197,9 +199,12 @@ undone old new before after next age key result tied rising last found f l =
     let h = tied.has_mapping age key stands in
     let is : result ≡ Some h.0 = found ∙ h.1.0 in
     let left = left_all old new before after next age key h.0 split.0 [] tied rising split.1 h.1.0
-      (subst (λ r. IfSome r (λ _. tree.Updates forward_cmp old new key None)) is f) (subst (λ r. IfSome r (λ mapping. IsLeft before after (reply_key mapping) (lane_age mapping age))) is l) in
+    (subst (λ r. IfSome r (λ _. tree.Updates forward_cmp old new key None)) is f) (subst (λ r. IfSome r (λ mapping. IsLeft before after (reply_key mapping) (lane_age mapping age))) is l) in
     record {
-      gone = h.0; is = is; tied = left.tied; rising = left.rising;
+      gone = h.0;
+      is = is;
+      tied = left.tied;
+      rising = left.rising;
       list = left.listed_before ∙ ap (λ ms. ms ++ h.0 ∷ []) (sym (left.listed_after ∙ append-nil (listed (tree.get forward_cmp old) split.0)));
     }
 

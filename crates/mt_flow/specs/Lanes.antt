@@ -1,5 +1,5 @@
 -- Which mappings are of some lanes, and what is left where the first of them are taken.
-use Rattle.std.specs.Prelude.{◌≡◌, ℕ, zero, suc, ◌+◌, ◌/◌, ◌%◌, ◌^◌, ◌<◌, ◌≤◌, ◌==◌, ◌&&◌, nat_lt, nat_le, Bool, true, List, [], ◌∷◌, ◌++◌, filter, Option, Some, None, if◌then◌else◌, MatchOption}
+use Rattle.std.specs.Prelude.{◌≡◌, ℕ, zero, suc, ◌/◌, ◌%◌, ◌^◌, ◌<◌, ◌≤◌, ◌==◌, ◌&&◌, nat_lt, nat_le, Bool, true, List, [], ◌∷◌, ◌++◌, filter, Option, Some, None, if◌then◌else◌, MatchOption}
 use Rattle.mt_flow.specs.declared.keys.ForwardKey.{ForwardKey}
 use Rattle.mt_flow.specs.declared.keys.LaneAge.{LaneAge}
 use Rattle.mt_flow.specs.declared.mapping.Mapping.{Mapping}

@@ -5,10 +5,9 @@ ghost use Rattle.mt_flow.specs.Indexes.{IsAsBefore, IsEntered, IsLeft};
 ghost use Rattle.mt_flow.specs.Keys.{lane_cmp, reply_cmp};
 ghost use Rattle.mt_flow.specs.Tied.{IsRising};
 
+use crate::keys::{ForwardKey, LaneAge, ReplyKey};
 use std::alloc::{AllocError, Global};
 use std::collections::BTreeMap;
-
-use crate::keys::{ForwardKey, LaneAge, ReplyKey};
 
 /// The forward keys by reply key, by age, and by lane and age.
 #[derive(Debug, Drop)]

@@ -4,9 +4,8 @@ ghost use Rattle.std.specs.BTreeMap as tree;
 ghost use Rattle.mt_flow.specs.Keys.{lane_cmp};
 ghost use Rattle.mt_flow.specs.Lanes.{has_bucket, older, IsFirstOf, IsFound};
 
-use std::collections::BTreeMap;
-
 use crate::keys::{ForwardKey, LaneAge};
+use std::collections::BTreeMap;
 
 /// An age, and the forward key of the mapping that has it.
 pub type Aged = (u64, ForwardKey);
@@ -42,13 +41,7 @@ fn older(best: Option<Aged>, found: Option<Aged>) -> Option<Aged>
     ensures { result ≡ older best found }
 {
     match (best, found) {
-        (Some(a), Some(b)) => {
-            if a.0 <= b.0 {
-                Some(a)
-            } else {
-                Some(b)
-            }
-        }
+        (Some(a), Some(b)) => { if a.0 <= b.0 { Some(a) } else { Some(b) } }
         (Some(a), None) => Some(a),
         (None, other) => other,
     }

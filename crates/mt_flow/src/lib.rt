@@ -12,3 +12,6 @@ mod store;
 pub use keys::{ForwardKey, ReplyKey};
 pub use mapping::{Mapping, Meeting, OpenFault};
 pub use store::Store;
+
+#[cfg(test)]
+mod tests;

@@ -3,10 +3,9 @@ ghost use Rattle.std.specs.Prelude.{◌≡◌};
 ghost use Rattle.mt_flow.specs.Tied.{lane_age};
 ghost use Rattle.mt_flow.specs.Mappings.{forward_key, refused_of, reply_key, reversed};
 
+use crate::keys::{ForwardKey, LaneAge, ReplyKey};
 use mt_ledger::PortToken;
 use mt_packet::Flow;
-
-use crate::keys::{ForwardKey, LaneAge, ReplyKey};
 
 /// A mapping: the rewriter and the input on which it was opened, the flow before and after, the outputs of
 /// packets and of replies, its lane, and the port of a pool that it holds.

@@ -7,16 +7,14 @@ ghost use Rattle.mt_flow.specs.Mappings.{AreNew, IsTakenBack, clash_of, forward_
 ghost use Rattle.mt_flow.specs.Tied.{lane_age};
 ghost use Rattle.mt_flow.specs.Lanes.{is_of, without, IsTaken};
 
-use std::alloc::{AllocError, Global};
-use std::collections::BTreeMap;
-use std::marker::Model;
-
-use mt_packet::Flow;
-
 use crate::indexes::Indexes;
 use crate::keys::{ForwardKey, ReplyKey};
 use crate::lanes::oldest;
 use crate::mapping::{Mapping, Meeting, OpenFault, reversed};
+use mt_packet::Flow;
+use std::alloc::{AllocError, Global};
+use std::collections::BTreeMap;
+use std::marker::Model;
 
 /// The mappings that a server keeps. A contract sees their list, in the order of opening and accepting.
 #[derive(Debug, Drop)]
@@ -185,10 +183,7 @@ impl Store {
     }
 
     /// Takes mappings in behind all others, in their order: all of them, or none where memory is missing.
-    pub fn accept(
-        &mut self,
-        mut mappings: Vec<Mapping>,
-    ) -> Result<(), (AllocError, Vec<Mapping>)>
+    pub fn accept(&mut self, mut mappings: Vec<Mapping>) -> Result<(), (AllocError, Vec<Mapping>)>
         requires { AreNew self.old mappings.items }
         ensures accepted { OnOk result (self.new ≡ self.old ++ mappings.items) }
         ensures err { OnErr result (self.new ≡ self.old) }

@@ -1,6 +1,4 @@
 use Rattle.std.proofs.Common.{◌∙◌, sym}
-use Rattle.std.specs.BTreeMap as tree
-use Rattle.mt_flow.specs.Keys.{lane_cmp}
 use Rattle.mt_flow.proofs.Firsts.{skipped, looked_at}
 use Rattle.mt_flow.proofs.lanes.oldest.Goals as goal
 use Rattle.mt_flow.proofs.lanes.oldest.Goals.{then-has_bucket, else-has_bucket}

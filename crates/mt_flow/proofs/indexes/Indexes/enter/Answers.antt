@@ -1,6 +1,5 @@
-use Rattle.std.proofs.Common.{◌≡◌, ◌∙◌, ap, sym, refl}
-use Rattle.std.specs.BTreeMap as tree
-use Rattle.mt_flow.specs.Keys.{lane_cmp, reply_cmp}
+use Rattle.std.proofs.Common.{◌∙◌, refl}
+use Rattle.mt_flow.specs.Keys.{lane_cmp}
 use Rattle.mt_flow.proofs.Orders.{reply_exact, lane_exact, restored, same_found, entered_last}
 use Rattle.mt_flow.proofs.indexes.Indexes.enter.Goals as goal
 

@@ -1,8 +1,5 @@
-use Rattle.std.proofs.Common.{◌≡◌, ◌∙◌, Some, None, Contains, MatchOption, sym, ap, subst, refl}
-use Rattle.std.specs.BTreeMap as tree
-use Rattle.mt_flow.specs.declared.mapping.Mapping.{Mapping}
-use Rattle.mt_flow.specs.Keys.{forward_cmp}
-use Rattle.mt_flow.specs.Mappings.{forward_key, met_forward, StandsForward}
+use Rattle.std.proofs.Common.{Contains, sym, subst, refl}
+use Rattle.mt_flow.specs.Mappings.{StandsForward}
 use Rattle.mt_flow.proofs.Stored.{forward_found, not_standing}
 use Rattle.mt_flow.proofs.store.Store.meet_forward.Goals as goal
 

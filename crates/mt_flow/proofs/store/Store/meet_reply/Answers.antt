@@ -1,8 +1,5 @@
-use Rattle.std.proofs.Common.{◌≡◌, ◌∙◌, Some, None, Contains, MatchOption, sym, ap, subst, refl}
-use Rattle.std.specs.BTreeMap as tree
-use Rattle.mt_flow.specs.declared.mapping.Mapping.{Mapping}
-use Rattle.mt_flow.specs.Keys.{forward_cmp}
-use Rattle.mt_flow.specs.Mappings.{reply_key, met_reply, StandsReply}
+use Rattle.std.proofs.Common.{◌≡◌, ◌∙◌, Contains, sym, ap, subst}
+use Rattle.mt_flow.specs.Mappings.{reply_key, StandsReply}
 use Rattle.mt_flow.proofs.Stored.{list_of, reply_unmet, reply_leads}
 use Rattle.mt_flow.proofs.store.Store.meet_reply.Goals as goal
 
@@ -17,8 +14,11 @@ returns-in_err-mapping c = absurd (let l = reply_leads c.self.inside.by_forward 
 pub returns : goal.returns
 returns c =
     let l = reply_leads c.self.inside.by_forward c.self.inside.indexes (record { element = c.args.element; flow = c.args.flow.now }) c.in_ok-key.key.now c.self.invariant.0 (sym c.in_ok-key.ensures.value) in
-    let same : l.0 ≡ c.in_ok-mapping.mapping.now = (let found = l.1.0 in let other = c.in_ok-mapping.ensures.value in cc) in
-    ( c.in_ok-mapping.mapping.now
-    , ( subst (λ list. Contains list c.in_ok-mapping.mapping.now) c.self.view_is (subst (λ m. Contains (list_of c.self.inside.by_forward c.self.inside.indexes) m) same l.1.1.0)
-      , ap reply_key (sym same) ∙ l.1.1.1
-      , ap (λ flow. record { after = flow; output = c.in_ok-mapping.mapping.now.rout }) c.reversed.ensures))
+    let same : l.0 ≡ c.in_ok-mapping.mapping.now = (let found = l.1.0 in let other = c.in_ok-mapping.ensures.value in cc) in (
+      c.in_ok-mapping.mapping.now,
+      (
+        subst (λ list. Contains list c.in_ok-mapping.mapping.now) c.self.view_is (subst (λ m. Contains (list_of c.self.inside.by_forward c.self.inside.indexes) m) same l.1.1.0),
+        ap reply_key (sym same) ∙ l.1.1.1,
+        ap (λ flow. record { after = flow; output = c.in_ok-mapping.mapping.now.rout }) c.reversed.ensures,
+      ),
+    )

@@ -5,5 +5,5 @@ use Rattle.mt_flow.proofs.store.Store.take_back.Given as goal
 abbrev pub invariant-loop-back : goal.invariant-loop-back
 invariant-loop-back l = record {
   taken : IsTakenBack l.fn.self l.self l.fn.mappings.items l.mappings.items l.back;
-  room : vec_capacity l.fn.mappings ≤ vec_capacity l.mappings
+  room : vec_capacity l.fn.mappings ≤ vec_capacity l.mappings;
 }

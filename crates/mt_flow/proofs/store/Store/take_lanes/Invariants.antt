@@ -6,5 +6,5 @@ use Rattle.mt_flow.proofs.store.Store.take_lanes.Given as goal
 abbrev pub invariant-loop-count : goal.invariant-loop-count
 invariant-loop-count l = record {
   taking : IsTaking (is_of l.group l.buckets) l.fn.self l.self l.taken.items l.count;
-  room : min (length (filter (is_of l.group l.buckets) l.fn.self)) l.most ≤ vec_capacity l.taken
+  room : min (length (filter (is_of l.group l.buckets) l.fn.self)) l.most ≤ vec_capacity l.taken;
 }

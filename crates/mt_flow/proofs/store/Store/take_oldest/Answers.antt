@@ -1,4 +1,4 @@
-use Rattle.std.proofs.Common.{◌≡◌, ◌∙◌, [], filter, refl, sym, subst}
+use Rattle.std.proofs.Common.{◌≡◌, [], filter, refl, subst}
 use Rattle.mt_flow.specs.Lanes.{is_of, IsTaken}
 use Rattle.mt_flow.proofs.Stored.{list_of}
 use Rattle.mt_flow.proofs.Oldest.{HasGone, oldest_gone, none_of_lanes}

@@ -1,4 +1,4 @@
-use Rattle.std.proofs.Common.{◌≡◌, ◌++◌, ◌∷◌, [], ◌∙◌, Some, None, IfSome, IfNone, List, length, length-append, arith, sym, ap, subst}
+use Rattle.std.proofs.Common.{◌≡◌, ◌++◌, ◌∷◌, [], ◌∙◌, List, length, length-append, arith, sym, ap}
 use Rattle.mt_flow.proofs.Stored.{HasUndone, undone}
 use Rattle.mt_flow.proofs.store.Store.undo.Goals as goal
 
@@ -13,9 +13,10 @@ pub invariant_of-self : goal.invariant_of-self
 invariant_of-self c = ((done c).tied, (done c).rising)
 
 pub returns-clause-empty : goal.returns-clause-empty
-returns-clause-empty c =
-    ( λ none. absurd (let wrong = rw (done c).is at none in cc)
-    , λ empty. absurd (not_empty _ (done c).gone (sym (done c).list ∙ c.self.view_is ∙ empty)))
+returns-clause-empty c = (
+  λ none. absurd (let wrong = rw (done c).is at none in cc),
+  λ empty. absurd (not_empty _ (done c).gone (sym (done c).list ∙ c.self.view_is ∙ empty)),
+)
 
 pub returns-clause-unchanged : goal.returns-clause-unchanged
 returns-clause-unchanged c = rw (done c).is tt
