@@ -1,4 +1,6 @@
 pub mod Accepting
+pub mod Counted
+pub mod Filters
 pub mod Firsts
 pub mod Kept
 pub mod Oldest

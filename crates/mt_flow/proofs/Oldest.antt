@@ -14,14 +14,10 @@ use Rattle.mt_flow.specs.Keys.{forward_cmp, lane_cmp}
 use Rattle.mt_flow.specs.Lanes.{is_of, has_bucket, without, IsTaken, IsIn, IsOldest}
 use Rattle.mt_flow.specs.Mappings.{reply_key}
 use Rattle.mt_flow.specs.Tied.{IsRising, lane_age, listed, with_found}
+use Rattle.mt_flow.specs.Counts.{AreCounted}
+use Rattle.mt_flow.proofs.Filters.{eqb_same, same_eqb, either, filter-append}
 use Rattle.mt_flow.proofs.Kept.{cut, split_at, aged_of}
 use Rattle.mt_flow.proofs.Stored.{ForwardMap, AllTied, list_of, left_all}
-
-eqb_same : (m n : ℕ) → eqb m n ≡ true → m ≡ n
-eqb_same m n e = grind (arith, nat_tests)
-
-same_eqb : (m n : ℕ) → m ≡ n → eqb m n ≡ true
-same_eqb m n e = grind (arith, nat_tests)
 
 ltb_less : (m n : ℕ) → ltb m n ≡ true → m < n
 ltb_less m n e = grind (arith, nat_tests)
@@ -37,10 +33,6 @@ is_in_lanes group buckets age mapping e =
 
 is_of_lanes : (group buckets bound : ℕ) (mapping : Mapping) → mapping.group ≡ group → has_bucket buckets mapping.bucket ≡ true → is_of group buckets mapping ≡ true
 is_of_lanes group buckets bound mapping g b = let one = same_eqb mapping.group group g in rw (one, b) refl
-
-either : (b : Bool) → (b ≡ true) ⊎ (b ≡ false)
-either true = inl refl
-either false = inr refl
 
 pub filter_none : (test : Mapping → Bool) (mappings : List Mapping) → ((mapping : Mapping) → Contains mappings mapping → test mapping ≡ true → ⊥) → filter test mappings ≡ []
 filter_none test [] h = refl
@@ -63,6 +55,7 @@ pub record HasGone (old new : ForwardMap) (before after : Indexes) (next group b
   pub tied : AllTied new after
   pub rising : IsRising 0 next after.by_age.entries
   pub taken : IsTaken (is_of group buckets) (list_of old before) gone (list_of new after)
+  pub counted : AreCounted before.counts (list_of old before) → AreCounted after.counts (list_of new after)
 
 pub oldest_gone : (old new : ForwardMap) (before after : Indexes) (next group buckets age : ℕ) (key : ForwardKey) (result : Option Mapping) → AllTied old before → IsRising 0 next before.by_age.entries
     → IsOldest (tree.get lane_cmp before.by_lane) group buckets 64 age key → result ≡ tree.get forward_cmp old key
@@ -81,6 +74,7 @@ oldest_gone old new before after next group buckets age key result tied rising o
       is = is;
       tied = left.tied;
       rising = left.rising;
+      counted = left.counted;
       taken = record {
         front = listed (tree.get forward_cmp old) s.0;
         back = listed (tree.get forward_cmp old) s.1.0;
@@ -97,13 +91,6 @@ oldest_gone old new before after next group buckets age key result tied rising o
     }
 
 -- lists without what was taken
-filter-append : (test : Mapping → Bool) (xs ys : List Mapping) → filter test (xs ++ ys) ≡ filter test xs ++ filter test ys
-filter-append test [] ys = refl
-filter-append test (x ∷ xs) ys = elim (either (test x)) [
-  | inl e ↦ rw e (ap (λ ms. x ∷ ms) (filter-append test xs ys))
-  | inr e ↦ rw e (filter-append test xs ys)
-]
-
 pub filter_taken : (test : Mapping → Bool) (old : List Mapping) (mapping : Mapping) (new : List Mapping) → IsTaken test old mapping new → filter test old ≡ mapping ∷ filter test new
 filter_taken test old mapping new t =
     ap (filter test) t.old_is ∙ filter-append test t.front (mapping ∷ t.back) ∙ ap (λ ms. ms ++ filter test (mapping ∷ t.back)) t.none_before ∙ (let p = t.passes in rw p refl)

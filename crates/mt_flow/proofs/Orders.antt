@@ -1,5 +1,5 @@
 -- Keys that compare as equal are one key, and what an update of a map leaves.
-use Rattle.std.proofs.Common.{◌≡◌, ◌≢◌, ◌⊎◌, ◌∙◌, ℕ, suc, ◌<◌, ◌≤◌, List, [], ◌∷◌, ◌++◌, Option, None, false, Ordering, Less, Equal, Greater, sym, ap, refl, inl, inr, arith}
+use Rattle.std.proofs.Common.{◌+◌, unwrap_or, is_some, Result, Ok, Err, OnOk, OnErr, ◌-◌, Some, ◌≡◌, ◌≢◌, ◌⊎◌, ◌∙◌, ℕ, suc, ◌<◌, ◌≤◌, List, [], ◌∷◌, ◌++◌, Option, None, true, false, Ordering, Less, Equal, Greater, sym, ap, refl, inl, inr, arith}
 use Rattle.std.specs.BTreeMap as tree
 use Rattle.std.specs.Cmp.{IsTotalOrder}
 use Rattle.std.specs.Ordering.{nat_cmp, ordering_then, is_eq, is_gt}
@@ -10,7 +10,9 @@ use Rattle.mt_packet.specs.declared.flow.Flow.{Flow}
 use Rattle.mt_flow.specs.declared.keys.ForwardKey.{ForwardKey}
 use Rattle.mt_flow.specs.declared.keys.ReplyKey.{ReplyKey}
 use Rattle.mt_flow.specs.declared.keys.LaneAge.{LaneAge}
-use Rattle.mt_flow.specs.Keys.{flow_cmp, forward_cmp, reply_cmp, lane_cmp}
+use Rattle.mt_flow.specs.declared.keys.LaneKey.{LaneKey}
+use Rattle.mt_flow.specs.Keys.{flow_cmp, forward_cmp, reply_cmp, lane_cmp, key_cmp}
+use Rattle.mt_flow.specs.Counts.{Counts, count_of, IsCounted}
 use Rattle.mt_flow.specs.Tied.{IsRising}
 
 then_equal : (o p : Ordering) → ordering_then o p ≡ Equal → (o ≡ Equal) × (p ≡ Equal)
@@ -85,6 +87,17 @@ one_or_apart {K = K} {cmp = cmp} exact x y = cases (cmp x y) refl where
   cases Equal e = inl (exact.same x y e)
   cases Less e = inr (λ one. let tied : cmp x x ≡ Equal = tied_itself exact.total x in let other : cmp x x ≡ Less = ap (cmp x) one ∙ e in absurd cc)
   cases Greater e = inr (λ one. let tied : cmp x x ≡ Equal = tied_itself exact.total x in let other : cmp x x ≡ Greater = ap (cmp x) one ∙ e in absurd cc)
+
+abbrev key_from : ℕ → ℕ → LaneKey
+key_from group bucket = record { group = group; bucket = bucket }
+
+pub key_exact : IsExact key_cmp
+key_exact = record {
+  total = then_total (on_total (λ (k : LaneKey). k.group) nat_cmp_total) (on_total (λ (k : LaneKey). k.bucket) nat_cmp_total);
+  same = λ x y e. let a = then_equal _ _ e in
+    let p : x.group ≡ y.group = nat_same x.group y.group a.0 in let q : x.bucket ≡ y.bucket = nat_same x.bucket y.bucket a.1 in
+    let whole : key_from x.group x.bucket ≡ key_from y.group y.bucket = cc in whole
+}
 
 -- what is found after an update
 pub record IsUpdate {K X : Type 0} (old new : K → Option X) (key : K) (value : Option X) : Type 0 where
@@ -179,3 +192,31 @@ lane_between group bucket age other place above below =
         )
       ]
     ]
+
+-- the count of a lane after an update
+pub counted : (old new : Counts) (lane : LaneKey) (count : ℕ) → tree.Updates key_cmp old new lane (Some count) → IsCounted old new lane count
+counted old new lane count u =
+    let update = update_of key_exact old new lane (Some count) u in
+    record { here = ap (λ o. unwrap_or o 0) update.here; apart = λ other ne. ap (λ o. unwrap_or o 0) (update.apart other ne) }
+
+-- a key that is there takes another value in any case
+pub replaced : {R E : Type 0} (r : Result R E) (old new : Counts) (lane : LaneKey) (count : ℕ) → OnOk r (tree.Updates key_cmp old new lane (Some count)) → OnErr r (tree.get key_cmp old lane ≡ None) → is_some (tree.get key_cmp old lane) ≡ true → IsCounted old new lane count
+replaced (Ok x) old new lane count done absent there = counted old new lane count done
+replaced (Err e) old new lane count done absent there = absurd (let wrong = rw absent at there in cc)
+
+-- a lane that is not counted has none
+pub uncounted : (counts : Counts) (lane : LaneKey) → is_some (tree.get key_cmp counts lane) ≡ false → IsCounted counts counts lane (count_of counts lane - 1)
+uncounted counts lane e = record { here = none (tree.get key_cmp counts lane) e; apart = λ other ne. refl } where
+  none : (o : Option ℕ) → is_some o ≡ false → unwrap_or o 0 ≡ unwrap_or o 0 - 1
+  none None h = refl
+  none (Some n) h = absurd cc
+
+-- one in and one out
+pub recounted : (old mid new : Counts) (lane : LaneKey) → IsCounted old mid lane (count_of old lane + 1) → IsCounted mid new lane (count_of mid lane - 1) → (other : LaneKey) → count_of new other ≡ count_of old other
+recounted old mid new lane up down other = elim (one_or_apart key_exact other lane) [
+  | inl one ↦ (let h = down.here in let k = up.here in rw one (omega (arith, h, k)))
+  | inr two ↦ down.apart other two ∙ up.apart other two
+]
+
+pub same_counts : (old new : Counts) → new.entries ≡ old.entries → (other : LaneKey) → count_of new other ≡ count_of old other
+same_counts old new same other = ap (λ o. unwrap_or o 0) (same_found key_cmp old new same other)

@@ -1,5 +1,5 @@
 -- The store's maps as a whole: what a mapping opened and a mapping taken out leave.
-use Rattle.std.proofs.Common.{◌≡◌, ◌≢◌, ◌∙◌, ◌↔◌, ℕ, suc, ◌+◌, List, [], ◌∷◌, ◌++◌, Option, Some, None, Contains, sym, ap, refl, subst, inl, inr, arith, append-nil, true, false, is_some, slice_get, length, IfSome, ◌-◌}
+use Rattle.std.proofs.Common.{filter, ◌≡◌, ◌≢◌, ◌∙◌, ◌↔◌, ℕ, suc, ◌+◌, List, [], ◌∷◌, ◌++◌, Option, Some, None, Contains, sym, ap, refl, subst, inl, inr, arith, append-nil, true, false, is_some, slice_get, length, IfSome, ◌-◌}
 use Rattle.std.specs.BTreeMap as tree
 use Rattle.std.specs.Map.{remove_entry}
 use Rattle.std.specs.Ordering.{nat_cmp}
@@ -11,10 +11,13 @@ use Rattle.mt_flow.specs.declared.keys.LaneAge.{LaneAge}
 use Rattle.mt_flow.specs.declared.mapping.Mapping.{Mapping}
 use Rattle.mt_flow.specs.declared.indexes.Indexes.{Indexes}
 use Rattle.mt_flow.specs.Indexes.{IsEntered, IsLeft, IsAsBefore}
-use Rattle.mt_flow.specs.Keys.{forward_cmp, reply_cmp, lane_cmp}
+use Rattle.mt_flow.specs.Keys.{forward_cmp, reply_cmp, lane_cmp, lane_key}
 use Rattle.mt_flow.specs.Mappings.{forward_key, reply_key, StandsForward, StandsReply}
 use Rattle.mt_flow.specs.Tied.{IsTied, IsRising, lane_age, listed, with_found}
-use Rattle.mt_flow.proofs.Orders.{forward_exact, reply_exact, lane_exact, update_of, restored}
+use Rattle.mt_flow.proofs.Orders.{forward_exact, reply_exact, lane_exact, update_of, restored, recounted}
+use Rattle.mt_flow.specs.Counts.{AreCounted, Counts, count_of, is_at}
+use Rattle.mt_flow.specs.declared.keys.LaneKey.{LaneKey}
+use Rattle.mt_flow.proofs.Counted.{counted_left, counted_opened}
 use Rattle.mt_flow.proofs.Kept.{tied_opened, tied_left, cut, listed-append, listed_same, listed_one, aged_of, listed_of, age_below}
 
 abbrev pub ForwardMap : Type 0
@@ -45,6 +48,7 @@ pub record HasLeft (old new : ForwardMap) (before after : Indexes) (next : ℕ) 
   pub rising : IsRising 0 next after.by_age.entries
   pub listed_before : list_of old before ≡ listed (tree.get forward_cmp old) front ++ gone ∷ listed (tree.get forward_cmp old) back
   pub listed_after : list_of new after ≡ listed (tree.get forward_cmp old) front ++ listed (tree.get forward_cmp old) back
+  pub counted : AreCounted before.counts (list_of old before) → AreCounted after.counts (list_of new after)
 
 pub left_all : (old new : ForwardMap) (before after : Indexes) (next age : ℕ) (key : ForwardKey) (gone : Mapping) (front back : List (ℕ × ForwardKey))
     → AllTied old before → IsRising 0 next before.by_age.entries → before.by_age.entries ≡ front ++ (age, key) ∷ back → tree.get forward_cmp old key ≡ Some gone
@@ -63,15 +67,18 @@ left_all old new before after next age key gone front back tied rising order fou
     let stands = Contains-append_right front ((age, key) ∷ back) (age, key) (first_in (age, key) back) in
     let stay : (other : ℕ) (k : ForwardKey) → Contains (front ++ back) (other, k) → tree.get forward_cmp new k ≡ tree.get forward_cmp old k =
     λ other k in_less. let o = other_keys other k in_less in update.apart k (λ one. o.1 (order_tied.one_age other age key (subst (λ x. Contains (front ++ (age, key) ∷ back) (other, x)) one o.0) stands)) in
+    let listed_before : list_of old before ≡ listed (tree.get forward_cmp old) front ++ gone ∷ listed (tree.get forward_cmp old) back = ap (listed (tree.get forward_cmp old)) order ∙ listed-append (tree.get forward_cmp old) front ((age, key) ∷ back)
+          ∙ ap (λ o. listed (tree.get forward_cmp old) front ++ with_found o (listed (tree.get forward_cmp old) back)) found in
+    let listed_after : list_of new after ≡ listed (tree.get forward_cmp old) front ++ listed (tree.get forward_cmp old) back = ap (listed (tree.get forward_cmp new)) after_is ∙ listed_same (tree.get forward_cmp old) (tree.get forward_cmp new) (front ++ back) stay ∙ listed-append (tree.get forward_cmp old) front back in
     record {
       tied = subst (λ es. IsTied es (tree.get forward_cmp new) (tree.get reply_cmp after.by_reply) (tree.get lane_cmp after.by_lane)) (sym after_is)
           (tied_left (front ++ (age, key) ∷ back) (front ++ back) (tree.get forward_cmp old) (tree.get forward_cmp new) (tree.get reply_cmp before.by_reply) (tree.get reply_cmp after.by_reply) (tree.get lane_cmp before.by_lane) (tree.get lane_cmp after.by_lane)
           age key gone order_tied stands found (λ aged in_less. other_keys aged.0 aged.1 in_less) (keeps_others front back age key)
           update (update_of reply_exact before.by_reply after.by_reply (reply_key gone) None l.reply) (update_of lane_exact before.by_lane after.by_lane (lane_age gone age) None l.lane));
       rising = subst (λ es. IsRising 0 next es) (sym after_is) c.rising;
-      listed_before = ap (listed (tree.get forward_cmp old)) order ∙ listed-append (tree.get forward_cmp old) front ((age, key) ∷ back)
-          ∙ ap (λ o. listed (tree.get forward_cmp old) front ++ with_found o (listed (tree.get forward_cmp old) back)) found;
-      listed_after = ap (listed (tree.get forward_cmp new)) after_is ∙ listed_same (tree.get forward_cmp old) (tree.get forward_cmp new) (front ++ back) stay ∙ listed-append (tree.get forward_cmp old) front back;
+      listed_before = listed_before;
+      listed_after = listed_after;
+      counted = λ h. subst (λ ms. AreCounted after.counts ms) (sym listed_after) (counted_left before.counts after.counts (listed (tree.get forward_cmp old) front) gone (listed (tree.get forward_cmp old) back) age (subst (λ ms. AreCounted before.counts ms) listed_before h) l.count);
     }
 
 -- what a mapping opened leaves
@@ -79,6 +86,7 @@ pub record HasOpened (old new : ForwardMap) (before after : Indexes) (next : ℕ
   pub tied : AllTied new after
   pub rising : IsRising 0 (next + 1) after.by_age.entries
   pub listed_after : list_of new after ≡ list_of old before ++ opened ∷ []
+  pub counted : AreCounted before.counts (list_of old before) → AreCounted after.counts (list_of new after)
 
 pub opened_all : (old new : ForwardMap) (before after : Indexes) (next : ℕ) (opened : Mapping)
     → AllTied old before → IsRising 0 next before.by_age.entries → tree.get forward_cmp old (forward_key opened) ≡ None → tree.get reply_cmp before.by_reply (reply_key opened) ≡ None
@@ -86,15 +94,17 @@ pub opened_all : (old new : ForwardMap) (before after : Indexes) (next : ℕ) (o
     → HasOpened old new before after next opened
 opened_all old new before after next opened tied rising absent unmet f e =
     let update = update_of forward_exact old new (forward_key opened) (Some opened) f in
+    let listed_after : list_of new after ≡ list_of old before ++ opened ∷ [] = ap (listed (tree.get forward_cmp new)) e.order ∙ listed-append (tree.get forward_cmp new) before.by_age.entries ((next, forward_key opened) ∷ [])
+          ∙ ap (λ ms. ms ++ listed (tree.get forward_cmp new) ((next, forward_key opened) ∷ [])) (listed_same (tree.get forward_cmp old) (tree.get forward_cmp new) before.by_age.entries
+          (λ age key c. let h = tied.has_mapping age key c in update.apart key (λ one. let none : tree.get forward_cmp old key ≡ None = ap (tree.get forward_cmp old) one ∙ absent in let some = h.1.0 in absurd cc)))
+          ∙ ap (λ ms. listed (tree.get forward_cmp old) before.by_age.entries ++ ms) (listed_one (tree.get forward_cmp new) next (forward_key opened) opened update.here) in
     record {
       tied = subst (λ es. IsTied es (tree.get forward_cmp new) (tree.get reply_cmp after.by_reply) (tree.get lane_cmp after.by_lane)) (sym e.order)
           (tied_opened before.by_age.entries (tree.get forward_cmp old) (tree.get forward_cmp new) (tree.get reply_cmp before.by_reply) (tree.get reply_cmp after.by_reply) (tree.get lane_cmp before.by_lane) (tree.get lane_cmp after.by_lane)
           next opened tied rising absent unmet update (update_of reply_exact before.by_reply after.by_reply (reply_key opened) (Some (forward_key opened)) e.reply) (update_of lane_exact before.by_lane after.by_lane (lane_age opened next) (Some (forward_key opened)) e.lane));
       rising = subst (λ es. IsRising 0 (next + 1) es) (sym e.order) (rising_more 0 next (forward_key opened) before.by_age.entries rising);
-      listed_after = ap (listed (tree.get forward_cmp new)) e.order ∙ listed-append (tree.get forward_cmp new) before.by_age.entries ((next, forward_key opened) ∷ [])
-          ∙ ap (λ ms. ms ++ listed (tree.get forward_cmp new) ((next, forward_key opened) ∷ [])) (listed_same (tree.get forward_cmp old) (tree.get forward_cmp new) before.by_age.entries
-          (λ age key c. let h = tied.has_mapping age key c in update.apart key (λ one. let none : tree.get forward_cmp old key ≡ None = ap (tree.get forward_cmp old) one ∙ absent in let some = h.1.0 in absurd cc)))
-          ∙ ap (λ ms. listed (tree.get forward_cmp old) before.by_age.entries ++ ms) (listed_one (tree.get forward_cmp new) next (forward_key opened) opened update.here);
+      listed_after = listed_after;
+      counted = λ h. subst (λ ms. AreCounted after.counts ms) (sym listed_after) (counted_opened before.counts after.counts (list_of old before) opened next h e.count);
     }
 
 -- refused: all is found as before
@@ -172,6 +182,7 @@ left_again a b c answer place key no_reply no_lane rising e l = record {
   lane = restored lane_exact a.by_lane b.by_lane c.by_lane place (Some key) no_lane e.lane l.lane;
   order = l.order ∙ ap (λ es. remove_entry (tree.is_at (nat_cmp place.age)) es) e.order
       ∙ (cut 0 (place.age + 1) a.by_age.entries [] place.age key (rising_more 0 place.age key a.by_age.entries rising)).removed ∙ append-nil a.by_age.entries;
+  count = recounted a.counts b.counts c.counts (lane_key place) e.count l.count;
 }
 
 last_is : {X : Type 0} (xs : List X) (x : X) → slice_get xs (length xs - 1) ≡ Some x → (front : List X) × (xs ≡ front ++ x ∷ [])
@@ -189,6 +200,7 @@ pub record HasUndone (old new : ForwardMap) (before after : Indexes) (next : ℕ
   pub tied : AllTied new after
   pub rising : IsRising 0 next after.by_age.entries
   pub list : list_of old before ≡ list_of new after ++ gone ∷ []
+  pub counted : AreCounted before.counts (list_of old before) → AreCounted after.counts (list_of new after)
 
 pub undone : (old new : ForwardMap) (before after : Indexes) (next age : ℕ) (key : ForwardKey) (result : Option Mapping) → AllTied old before → IsRising 0 next before.by_age.entries
     → slice_get before.by_age.entries (length before.by_age.entries - 1) ≡ Some (age, key) → result ≡ tree.get forward_cmp old key
@@ -205,6 +217,7 @@ undone old new before after next age key result tied rising last found f l =
       is = is;
       tied = left.tied;
       rising = left.rising;
+      counted = left.counted;
       list = left.listed_before ∙ ap (λ ms. ms ++ h.0 ∷ []) (sym (left.listed_after ∙ append-nil (listed (tree.get forward_cmp old) split.0)));
     }
 
@@ -232,3 +245,6 @@ entered_at a b x y p q k l e f g h = subst (λ z. IsEntered a b z q l) e (subst 
 
 pub left_at : (a b : Indexes) (x y : ReplyKey) (p q : LaneAge) → x ≡ y → p ≡ q → IsLeft a b x p → IsLeft a b y q
 left_at a b x y p q e f h = subst (λ z. IsLeft a b z q) e (subst (λ z. IsLeft a b x z) f h)
+
+pub counted_same : (old new : Counts) (list same : List Mapping) → AreCounted old list → ((lane : LaneKey) → count_of new lane ≡ count_of old lane) → same ≡ list → AreCounted new same
+counted_same old new list same h e one lane = e lane ∙ h lane ∙ ap (λ ms. length (filter (is_at lane) ms)) (sym one)

@@ -5,6 +5,7 @@ use Rattle.mt_packet.specs.declared.flow.Flow.{Flow}
 use Rattle.mt_flow.specs.declared.keys.ForwardKey.{ForwardKey}
 use Rattle.mt_flow.specs.declared.keys.ReplyKey.{ReplyKey}
 use Rattle.mt_flow.specs.declared.keys.LaneAge.{LaneAge}
+use Rattle.mt_flow.specs.declared.keys.LaneKey.{LaneKey}
 
 abbrev pub flow_cmp : Flow → Flow → Ordering
 flow_cmp x y =
@@ -19,3 +20,9 @@ reply_cmp x y = ordering_then (nat_cmp x.element y.element) (flow_cmp x.flow y.f
 
 abbrev pub lane_cmp : LaneAge → LaneAge → Ordering
 lane_cmp x y = ordering_then (nat_cmp x.group y.group) (ordering_then (nat_cmp x.bucket y.bucket) (nat_cmp x.age y.age))
+
+abbrev pub key_cmp : LaneKey → LaneKey → Ordering
+key_cmp x y = ordering_then (nat_cmp x.group y.group) (nat_cmp x.bucket y.bucket)
+
+abbrev pub lane_key : LaneAge → LaneKey
+lane_key place = record { group = place.group; bucket = place.bucket }

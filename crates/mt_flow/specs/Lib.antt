@@ -1,3 +1,4 @@
+pub mod Counts
 pub mod Indexes
 pub mod Keys
 pub mod Lanes

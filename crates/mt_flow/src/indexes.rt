@@ -5,16 +5,18 @@ ghost use Rattle.mt_flow.specs.Indexes.{IsAsBefore, IsEntered, IsLeft};
 ghost use Rattle.mt_flow.specs.Keys.{lane_cmp, reply_cmp};
 ghost use Rattle.mt_flow.specs.Tied.{IsRising};
 
-use crate::keys::{ForwardKey, LaneAge, ReplyKey};
+use crate::counts::{count_in, count_out};
+use crate::keys::{ForwardKey, LaneAge, LaneKey, ReplyKey};
 use std::alloc::{AllocError, Global};
 use std::collections::BTreeMap;
 
-/// The forward keys by reply key, by age, and by lane and age.
+/// The forward keys by reply key, by age, and by lane and age, and how many each lane has.
 #[derive(Debug, Drop)]
 pub struct Indexes {
     pub by_reply: BTreeMap<ReplyKey, ForwardKey>,
     pub by_age: BTreeMap<u64, ForwardKey>,
     pub by_lane: BTreeMap<LaneAge, ForwardKey>,
+    pub counts: BTreeMap<LaneKey, u64>,
 }
 
 impl Indexes {
@@ -22,11 +24,13 @@ impl Indexes {
         ensures reply { result.by_reply.entries ≡ [] }
         ensures age { result.by_age.entries ≡ [] }
         ensures lane { result.by_lane.entries ≡ [] }
+        ensures counts { result.counts.entries ≡ [] }
     {
         Indexes {
             by_reply: BTreeMap::new(alloc),
             by_age: BTreeMap::new(alloc),
             by_lane: BTreeMap::new(alloc),
+            counts: BTreeMap::new(alloc),
         }
     }
 
@@ -44,16 +48,21 @@ impl Indexes {
         ensures ok { OnOk result (IsEntered self.old self.new answer place key) }
         ensures err { OnErr result (IsAsBefore self.old self.new) }
     {
+        let lane = place.lane();
+        count_in(&mut self.counts, lane)?;
         if let Err(refused) = self.by_reply.insert(answer, key) {
+            count_out(&mut self.counts, lane);
             return Err(AllocError::from(refused));
         }
         if let Err(refused) = self.by_lane.insert(place, key) {
             self.by_reply.remove(&answer);
+            count_out(&mut self.counts, lane);
             return Err(AllocError::from(refused));
         }
         if let Err(refused) = self.by_age.insert(place.age, key) {
             self.by_reply.remove(&answer);
             self.by_lane.remove(&place);
+            count_out(&mut self.counts, lane);
             return Err(AllocError::from(refused));
         }
         Ok(())
@@ -66,5 +75,6 @@ impl Indexes {
         self.by_reply.remove(&answer);
         self.by_lane.remove(&place);
         self.by_age.remove(&place.age);
+        count_out(&mut self.counts, place.lane());
     }
 }

@@ -3,6 +3,7 @@
 //! and in each lane. Read `specs/Mappings.antt` first.
 #![tactic(auto)]
 
+mod counts;
 mod indexes;
 mod keys;
 mod lanes;

@@ -7,9 +7,10 @@ ghost use Rattle.mt_flow.specs.Mappings.{AreNew, IsTakenBack, clash_of, forward_
 ghost use Rattle.mt_flow.specs.Tied.{lane_age};
 ghost use Rattle.mt_flow.specs.Lanes.{is_of, without, IsTaken};
 
+use crate::counts::count_of;
 use crate::indexes::Indexes;
-use crate::keys::{ForwardKey, ReplyKey};
-use crate::lanes::oldest;
+use crate::keys::{ForwardKey, LaneKey, ReplyKey};
+use crate::lanes::{has_bucket, oldest};
 use crate::mapping::{Mapping, Meeting, OpenFault, reversed};
 use mt_packet::Flow;
 use std::alloc::{AllocError, Global};
@@ -29,6 +30,7 @@ impl Model for Store {
     ghost use Rattle.std.specs.Prelude.{List};
     ghost use Rattle.std.specs.BTreeMap as tree;
     ghost use Rattle.mt_flow.specs.Keys.{forward_cmp, lane_cmp, reply_cmp};
+    ghost use Rattle.mt_flow.specs.Counts.{AreCounted};
     ghost use Rattle.mt_flow.specs.Tied.{IsRising, IsTied, listed};
     ghost use Rattle.mt_flow.specs.declared.mapping.Mapping.{Mapping};
 
@@ -36,7 +38,7 @@ impl Model for Store {
 
     ghost view = { λ s. listed (tree.get forward_cmp s.by_forward) s.indexes.by_age.entries };
 
-    ghost invariant = { λ s. IsTied s.indexes.by_age.entries (tree.get forward_cmp s.by_forward) (tree.get reply_cmp s.indexes.by_reply) (tree.get lane_cmp s.indexes.by_lane) × IsRising 0 s.next s.indexes.by_age.entries };
+    ghost invariant = { λ s. IsTied s.indexes.by_age.entries (tree.get forward_cmp s.by_forward) (tree.get reply_cmp s.indexes.by_reply) (tree.get lane_cmp s.indexes.by_lane) × IsRising 0 s.next s.indexes.by_age.entries × AreCounted s.indexes.counts (listed (tree.get forward_cmp s.by_forward) s.indexes.by_age.entries) };
 }
 
 /// The mapping of a key, taken out of all maps.
@@ -180,6 +182,21 @@ impl Store {
             }
         }
         Ok(taken)
+    }
+
+    /// How many mappings some lanes have. The lanes are as for `take_lanes`.
+    pub fn kept(&self, group: u32, buckets: u64) -> usize
+        ensures { result ≡ length (filter (is_of group buckets) self.now) }
+    {
+        // A map has fewer than 2^63 entries, so the sum fits.
+        let _all = self.indexes.by_age.len();
+        let mut kept = 0usize;
+        for bucket in 0..64u32 {
+            if has_bucket(buckets, bucket) {
+                kept += count_of(&self.indexes.counts, LaneKey { group, bucket }) as usize;
+            }
+        }
+        kept
     }
 
     /// Takes mappings in behind all others, in their order: all of them, or none where memory is missing.

@@ -112,6 +112,9 @@ fn ten_thousand_mappings(rt: HostRuntime) -> Result<(), AllocError> {
         let last = store.undo().map(|mapping| mapping.before.sp);
         assert_eq!(rt; last, Some(9_999 - port));
     }
+    assert_eq!(rt; store.kept(1, 1), 155);
+    assert_eq!(rt; store.kept(1, u64::MAX), 9_900);
+    assert_eq!(rt; store.kept(2, u64::MAX), 0);
     let taken = store.take_lanes(1, 6, 5)?;
     assert_eq!(rt; ports(alloc, &taken)?, vec![in alloc; 1, 2, 65, 66, 129]?);
     let taken = store.take_lanes(1, u64::MAX, 4)?;
@@ -120,6 +123,8 @@ fn ten_thousand_mappings(rt: HostRuntime) -> Result<(), AllocError> {
     assert_eq!(rt; taken.len(), 0);
     let taken = store.take_lanes(1, 1, 1000)?;
     assert_eq!(rt; taken.len(), 154);
+    assert_eq!(rt; store.kept(1, 1), 0);
+    assert_eq!(rt; store.kept(1, 6), 305);
     assert_eq!(rt; store.by_forward().len(), 9_737);
     Ok(())
 }

@@ -5,7 +5,7 @@ use Rattle.mt_flow.specs.Keys.{forward_cmp, reply_cmp}
 use Rattle.mt_flow.specs.Mappings.{forward_key, reply_key, StandsReply}
 use Rattle.mt_flow.specs.Tied.{lane_age}
 use Rattle.mt_flow.proofs.Orders.{same_found}
-use Rattle.mt_flow.proofs.Stored.{HasOpened, reply_stands, reply_free, lane_free, forward_free, opened_all, same_tied, same_list, left_again, entered_at, left_at}
+use Rattle.mt_flow.proofs.Stored.{HasOpened, reply_stands, reply_free, lane_free, forward_free, opened_all, same_tied, list_of, same_list, counted_same, left_again, entered_at, left_at}
 use Rattle.mt_flow.proofs.store.Store.open.Goals as goal
 
 pub returns-then-contains_key-clause-clash : goal.returns-then-contains_key-clause-clash
@@ -28,7 +28,8 @@ enter-requires-clause-lane_absent c = rw c.lane_age-place.ensures (lane_free c.s
 pub invariant_of-self : goal.invariant_of-self
 invariant_of-self c = (
   same_tied c.self.inside.by_forward c.self.inside.by_forward c.self.inside.indexes c.enter.new.self (λ key. refl) c.in-Err.ensures.err c.self.invariant.0,
-  rw c.in-Err.ensures.err.order c.self.invariant.1,
+  rw c.in-Err.ensures.err.order c.self.invariant.1, counted_same c.self.inside.indexes.counts c.enter.new.self.counts (list_of c.self.inside.by_forward c.self.inside.indexes) (list_of c.self.inside.by_forward c.enter.new.self) c.self.invariant.2 c.in-Err.ensures.err.count
+        (same_list c.self.inside.by_forward c.self.inside.by_forward c.self.inside.indexes c.enter.new.self (λ key. refl) c.in-Err.ensures.err),
 )
 
 pub returns-in-Err-clause-clash : goal.returns-in-Err-clause-clash
@@ -48,7 +49,7 @@ opened c =
     (entered_at c.self.inside.indexes c.enter.new.self _ _ _ _ _ _ c.reply_key-answer.ensures c.lane_age-place.ensures c.forward_key-key.ensures c.in_default.ensures.ok)
 
 pub invariant_of-self-in-Ok : goal.invariant_of-self-in-Ok
-invariant_of-self-in-Ok c = ((opened c).tied, (opened c).rising)
+invariant_of-self-in-Ok c = ((opened c).tied, (opened c).rising, (opened c).counted c.self.invariant.2)
 
 pub returns-in-Ok-clause-opened : goal.returns-in-Ok-clause-opened
 returns-in-Ok-clause-opened c = rw (← c.self.view_is) (opened c).listed_after
@@ -73,7 +74,8 @@ as_before c =
 pub invariant_of-self-in-Err-insert : goal.invariant_of-self-in-Err-insert
 invariant_of-self-in-Err-insert c = (
   same_tied c.self.inside.by_forward c.insert.new.self c.self.inside.indexes c.leave.new.self (same_found forward_cmp c.self.inside.by_forward c.insert.new.self c.in-Err-insert.ensures.err) (as_before c) c.self.invariant.0,
-  rw (as_before c).order c.self.invariant.1,
+  rw (as_before c).order c.self.invariant.1, counted_same c.self.inside.indexes.counts c.leave.new.self.counts (list_of c.self.inside.by_forward c.self.inside.indexes) (list_of c.insert.new.self c.leave.new.self) c.self.invariant.2 (as_before c).count
+        (same_list c.self.inside.by_forward c.insert.new.self c.self.inside.indexes c.leave.new.self (same_found forward_cmp c.self.inside.by_forward c.insert.new.self c.in-Err-insert.ensures.err) (as_before c)),
 )
 
 pub returns-in-Err-insert-clause-unchanged : goal.returns-in-Err-insert-clause-unchanged

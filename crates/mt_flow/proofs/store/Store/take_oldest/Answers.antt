@@ -12,7 +12,7 @@ gone c = oldest_gone c.self.inside.by_forward c.take_out.new.by_forward c.self.i
     c.self.invariant.0 c.self.invariant.1 c.in-Some.ensures c.take_out.ensures.found c.take_out.ensures.forward c.take_out.ensures.indexes
 
 pub invariant_of-self : goal.invariant_of-self
-invariant_of-self c = ((gone c).tied, (gone c).rising)
+invariant_of-self c = ((gone c).tied, (gone c).rising, (gone c).counted c.self.invariant.2)
 
 pub returns : goal.returns
 returns c = rw (gone c).is (subst (λ list. IsTaken (is_of c.args.group c.args.buckets) list (gone c).gone (list_of c.take_out.new.by_forward c.take_out.new.indexes)) c.self.view_is (gone c).taken)

@@ -10,7 +10,7 @@ done c = undone c.self.inside.by_forward c.take_out.new.by_forward c.self.inside
     c.self.invariant.0 c.self.invariant.1 c.in-Some.ensures.last c.take_out.ensures.found c.take_out.ensures.forward c.take_out.ensures.indexes
 
 pub invariant_of-self : goal.invariant_of-self
-invariant_of-self c = ((done c).tied, (done c).rising)
+invariant_of-self c = ((done c).tied, (done c).rising, (done c).counted c.self.invariant.2)
 
 pub returns-clause-empty : goal.returns-clause-empty
 returns-clause-empty c = (
