@@ -19,4 +19,3 @@ filter-append test (x ∷ xs) ys = elim (either (test x)) [
   | inl e ↦ rw e (ap (λ ms. x ∷ ms) (filter-append test xs ys))
   | inr e ↦ rw e (filter-append test xs ys)
 ]
-

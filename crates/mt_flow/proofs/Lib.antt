@@ -1,4 +1,5 @@
 pub mod Accepting
+pub mod Apart
 pub mod Counted
 pub mod Filters
 pub mod Firsts

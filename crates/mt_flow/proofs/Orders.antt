@@ -95,8 +95,8 @@ pub key_exact : IsExact key_cmp
 key_exact = record {
   total = then_total (on_total (λ (k : LaneKey). k.group) nat_cmp_total) (on_total (λ (k : LaneKey). k.bucket) nat_cmp_total);
   same = λ x y e. let a = then_equal _ _ e in
-    let p : x.group ≡ y.group = nat_same x.group y.group a.0 in let q : x.bucket ≡ y.bucket = nat_same x.bucket y.bucket a.1 in
-    let whole : key_from x.group x.bucket ≡ key_from y.group y.bucket = cc in whole
+      let p : x.group ≡ y.group = nat_same x.group y.group a.0 in let q : x.bucket ≡ y.bucket = nat_same x.bucket y.bucket a.1 in
+      let whole : key_from x.group x.bucket ≡ key_from y.group y.bucket = cc in whole;
 }
 
 -- what is found after an update

@@ -68,7 +68,7 @@ left_all old new before after next age key gone front back tied rising order fou
     let stay : (other : ℕ) (k : ForwardKey) → Contains (front ++ back) (other, k) → tree.get forward_cmp new k ≡ tree.get forward_cmp old k =
     λ other k in_less. let o = other_keys other k in_less in update.apart k (λ one. o.1 (order_tied.one_age other age key (subst (λ x. Contains (front ++ (age, key) ∷ back) (other, x)) one o.0) stands)) in
     let listed_before : list_of old before ≡ listed (tree.get forward_cmp old) front ++ gone ∷ listed (tree.get forward_cmp old) back = ap (listed (tree.get forward_cmp old)) order ∙ listed-append (tree.get forward_cmp old) front ((age, key) ∷ back)
-          ∙ ap (λ o. listed (tree.get forward_cmp old) front ++ with_found o (listed (tree.get forward_cmp old) back)) found in
+    ∙ ap (λ o. listed (tree.get forward_cmp old) front ++ with_found o (listed (tree.get forward_cmp old) back)) found in
     let listed_after : list_of new after ≡ listed (tree.get forward_cmp old) front ++ listed (tree.get forward_cmp old) back = ap (listed (tree.get forward_cmp new)) after_is ∙ listed_same (tree.get forward_cmp old) (tree.get forward_cmp new) (front ++ back) stay ∙ listed-append (tree.get forward_cmp old) front back in
     record {
       tied = subst (λ es. IsTied es (tree.get forward_cmp new) (tree.get reply_cmp after.by_reply) (tree.get lane_cmp after.by_lane)) (sym after_is)
@@ -95,9 +95,9 @@ pub opened_all : (old new : ForwardMap) (before after : Indexes) (next : ℕ) (o
 opened_all old new before after next opened tied rising absent unmet f e =
     let update = update_of forward_exact old new (forward_key opened) (Some opened) f in
     let listed_after : list_of new after ≡ list_of old before ++ opened ∷ [] = ap (listed (tree.get forward_cmp new)) e.order ∙ listed-append (tree.get forward_cmp new) before.by_age.entries ((next, forward_key opened) ∷ [])
-          ∙ ap (λ ms. ms ++ listed (tree.get forward_cmp new) ((next, forward_key opened) ∷ [])) (listed_same (tree.get forward_cmp old) (tree.get forward_cmp new) before.by_age.entries
-          (λ age key c. let h = tied.has_mapping age key c in update.apart key (λ one. let none : tree.get forward_cmp old key ≡ None = ap (tree.get forward_cmp old) one ∙ absent in let some = h.1.0 in absurd cc)))
-          ∙ ap (λ ms. listed (tree.get forward_cmp old) before.by_age.entries ++ ms) (listed_one (tree.get forward_cmp new) next (forward_key opened) opened update.here) in
+    ∙ ap (λ ms. ms ++ listed (tree.get forward_cmp new) ((next, forward_key opened) ∷ [])) (listed_same (tree.get forward_cmp old) (tree.get forward_cmp new) before.by_age.entries
+    (λ age key c. let h = tied.has_mapping age key c in update.apart key (λ one. let none : tree.get forward_cmp old key ≡ None = ap (tree.get forward_cmp old) one ∙ absent in let some = h.1.0 in absurd cc)))
+    ∙ ap (λ ms. listed (tree.get forward_cmp old) before.by_age.entries ++ ms) (listed_one (tree.get forward_cmp new) next (forward_key opened) opened update.here) in
     record {
       tied = subst (λ es. IsTied es (tree.get forward_cmp new) (tree.get reply_cmp after.by_reply) (tree.get lane_cmp after.by_lane)) (sym e.order)
           (tied_opened before.by_age.entries (tree.get forward_cmp old) (tree.get forward_cmp new) (tree.get reply_cmp before.by_reply) (tree.get reply_cmp after.by_reply) (tree.get lane_cmp before.by_lane) (tree.get lane_cmp after.by_lane)
@@ -185,13 +185,16 @@ left_again a b c answer place key no_reply no_lane rising e l = record {
   count = recounted a.counts b.counts c.counts (lane_key place) e.count l.count;
 }
 
+longer : {X : Type 0} (y : X) (xs : List X) (x : X) (front : List X) → xs ≡ front ++ x ∷ [] → (longer_front : List X) × (y ∷ xs ≡ longer_front ++ x ∷ [])
+longer y xs x front e = (y ∷ front, ap (λ zs. y ∷ zs) e)
+
 last_is : {X : Type 0} (xs : List X) (x : X) → slice_get xs (length xs - 1) ≡ Some x → (front : List X) × (xs ≡ front ++ x ∷ [])
 last_is [] x e = absurd cc
 last_is (y ∷ []) x e = ([], (let same : y ≡ x = cc in ap (λ z. z ∷ []) same))
 last_is (y ∷ z ∷ rest) x e =
     let at : length (y ∷ z ∷ rest) - 1 ≡ suc (length (z ∷ rest) - 1) = omega arith in
     let later = last_is (z ∷ rest) x (subst (λ n. slice_get (y ∷ z ∷ rest) n ≡ Some x) at e) in
-    (y ∷ later.0, ap (λ xs. y ∷ xs) later.1)
+    longer y (z ∷ rest) x later.0 later.1
 
 -- the last mapping taken out
 pub record HasUndone (old new : ForwardMap) (before after : Indexes) (next : ℕ) (result : Option Mapping) : Type 0 where

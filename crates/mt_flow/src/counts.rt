@@ -4,10 +4,9 @@ ghost use Rattle.std.specs.BTreeMap as tree;
 ghost use Rattle.mt_flow.specs.Keys.{key_cmp};
 ghost use Rattle.mt_flow.specs.Counts.{count_of, IsCounted};
 
+use crate::keys::LaneKey;
 use std::alloc::AllocError;
 use std::collections::BTreeMap;
-
-use crate::keys::LaneKey;
 
 /// How many mappings a lane has.
 pub fn count_of(counts: &BTreeMap<LaneKey, u64>, lane: LaneKey) -> u64

@@ -1,6 +1,6 @@
 //! The mappings that a server keeps, in the order of opening and accepting. The contract speaks of that
-//! list; the code has an ordered map by forward key, one by reply key, and orders by age, over all lanes
-//! and in each lane. Read `specs/Mappings.antt` first.
+//! list; the code has an ordered map by forward key, one by reply key, orders by age, over all lanes and
+//! in each lane, and counts. Read `specs/Mappings.antt` first.
 #![tactic(auto)]
 
 mod counts;

@@ -1,5 +1,5 @@
 //! The store of a server.
-ghost use Rattle.std.specs.Prelude.{◌≡◌, ◌∷◌, ◌++◌, ◌↔◌, [], Some, None, Ok, Err, Contains, filter, take, vec_len, vec_capacity, length, ◌+◌, ◌<◌, ◌≤◌, IfErr, IfOk, IfSome, IfNone, IsNone, MatchOption, OnErr, OnOk};
+ghost use Rattle.std.specs.Prelude.{◌≡◌, ◌≢◌, AllPairs, ◌∷◌, ◌++◌, ◌↔◌, [], Some, None, Ok, Err, Contains, filter, take, vec_len, vec_capacity, length, ◌+◌, ◌<◌, ◌≤◌, IfErr, IfOk, IfSome, IfNone, IsNone, MatchOption, OnErr, OnOk};
 ghost use Rattle.std.specs.BTreeMap as tree;
 ghost use Rattle.mt_flow.specs.Indexes.{IsLeft};
 ghost use Rattle.mt_flow.specs.Keys.{forward_cmp, reply_cmp};
@@ -236,14 +236,16 @@ impl Store {
 
     /// The mappings by their forward keys.
     pub fn by_forward(&self) -> &BTreeMap<ForwardKey, Mapping>
-        ensures { (key : _) (mapping : _) → (tree.get forward_cmp result.now key ≡ Some mapping) ↔ (Contains self.now mapping × (forward_key mapping ≡ key)) }
+        ensures apart { AllPairs (λ x y. forward_key x ≢ forward_key y) self.now }
+        ensures found { (key : _) (mapping : _) → (tree.get forward_cmp result.now key ≡ Some mapping) ↔ (Contains self.now mapping × (forward_key mapping ≡ key)) }
     {
         &self.by_forward
     }
 
     /// The forward keys of the mappings by their reply keys.
     pub fn by_reply(&self) -> &BTreeMap<ReplyKey, ForwardKey>
-        ensures { (answer : _) (key : _) → (tree.get reply_cmp result.now answer ≡ Some key) ↔ ((mapping : _) × (Contains self.now mapping × (reply_key mapping ≡ answer) × (forward_key mapping ≡ key))) }
+        ensures apart { AllPairs (λ x y. reply_key x ≢ reply_key y) self.now }
+        ensures found { (answer : _) (key : _) → (tree.get reply_cmp result.now answer ≡ Some key) ↔ ((mapping : _) × (Contains self.now mapping × (reply_key mapping ≡ answer) × (forward_key mapping ≡ key))) }
     {
         &self.indexes.by_reply
     }

@@ -1,5 +1,5 @@
-use Rattle.std.proofs.Common.{◌≡◌, ◌+◌, subst}
-use Rattle.mt_flow.specs.Counts.{count_of, IsCounted}
+use Rattle.std.proofs.Common.{◌+◌, subst}
+use Rattle.mt_flow.specs.Counts.{IsCounted}
 use Rattle.mt_flow.proofs.Orders.{counted}
 use Rattle.mt_flow.proofs.counts.count_in.Goals as goal
 

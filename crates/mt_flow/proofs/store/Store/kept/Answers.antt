@@ -1,10 +1,10 @@
-use Rattle.std.proofs.Common.{◌≡◌, ◌≤◌, ◌<◌, ◌+◌, ◌^◌, ◌∙◌, ℕ, List, length, sym, ap, subst, arith}
+use Rattle.std.proofs.Common.{◌≡◌, ◌+◌, ◌∙◌, ℕ, List, length, sym, ap, arith}
 use Rattle.std.specs.BTreeMap as tree
 use Rattle.mt_flow.specs.declared.keys.LaneKey.{LaneKey}
 use Rattle.mt_flow.specs.declared.mapping.Mapping.{Mapping}
 use Rattle.mt_flow.specs.Counts.{Counts, count_of, is_at, AreCounted}
 use Rattle.mt_flow.specs.Keys.{forward_cmp}
-use Rattle.mt_flow.proofs.Counted.{how_many, is_below, key_of, none_below, counted_below, skipped_below, all_below, many_le}
+use Rattle.mt_flow.proofs.Counted.{how_many, is_below, key_of, none_below, counted_below, skipped_below, many_le}
 use Rattle.mt_flow.proofs.Oldest.{length_listed}
 use Rattle.mt_flow.proofs.store.Store.kept.Goals as goal
 use Rattle.mt_flow.proofs.store.Store.kept.Goals.{then-has_bucket, else-has_bucket}

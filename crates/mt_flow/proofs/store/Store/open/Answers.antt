@@ -28,8 +28,9 @@ enter-requires-clause-lane_absent c = rw c.lane_age-place.ensures (lane_free c.s
 pub invariant_of-self : goal.invariant_of-self
 invariant_of-self c = (
   same_tied c.self.inside.by_forward c.self.inside.by_forward c.self.inside.indexes c.enter.new.self (λ key. refl) c.in-Err.ensures.err c.self.invariant.0,
-  rw c.in-Err.ensures.err.order c.self.invariant.1, counted_same c.self.inside.indexes.counts c.enter.new.self.counts (list_of c.self.inside.by_forward c.self.inside.indexes) (list_of c.self.inside.by_forward c.enter.new.self) c.self.invariant.2 c.in-Err.ensures.err.count
-        (same_list c.self.inside.by_forward c.self.inside.by_forward c.self.inside.indexes c.enter.new.self (λ key. refl) c.in-Err.ensures.err),
+  rw c.in-Err.ensures.err.order c.self.invariant.1,
+  counted_same c.self.inside.indexes.counts c.enter.new.self.counts (list_of c.self.inside.by_forward c.self.inside.indexes) (list_of c.self.inside.by_forward c.enter.new.self) c.self.invariant.2 c.in-Err.ensures.err.count
+      (same_list c.self.inside.by_forward c.self.inside.by_forward c.self.inside.indexes c.enter.new.self (λ key. refl) c.in-Err.ensures.err),
 )
 
 pub returns-in-Err-clause-clash : goal.returns-in-Err-clause-clash
@@ -74,8 +75,9 @@ as_before c =
 pub invariant_of-self-in-Err-insert : goal.invariant_of-self-in-Err-insert
 invariant_of-self-in-Err-insert c = (
   same_tied c.self.inside.by_forward c.insert.new.self c.self.inside.indexes c.leave.new.self (same_found forward_cmp c.self.inside.by_forward c.insert.new.self c.in-Err-insert.ensures.err) (as_before c) c.self.invariant.0,
-  rw (as_before c).order c.self.invariant.1, counted_same c.self.inside.indexes.counts c.leave.new.self.counts (list_of c.self.inside.by_forward c.self.inside.indexes) (list_of c.insert.new.self c.leave.new.self) c.self.invariant.2 (as_before c).count
-        (same_list c.self.inside.by_forward c.insert.new.self c.self.inside.indexes c.leave.new.self (same_found forward_cmp c.self.inside.by_forward c.insert.new.self c.in-Err-insert.ensures.err) (as_before c)),
+  rw (as_before c).order c.self.invariant.1,
+  counted_same c.self.inside.indexes.counts c.leave.new.self.counts (list_of c.self.inside.by_forward c.self.inside.indexes) (list_of c.insert.new.self c.leave.new.self) c.self.invariant.2 (as_before c).count
+      (same_list c.self.inside.by_forward c.insert.new.self c.self.inside.indexes c.leave.new.self (same_found forward_cmp c.self.inside.by_forward c.insert.new.self c.in-Err-insert.ensures.err) (as_before c)),
 )
 
 pub returns-in-Err-insert-clause-unchanged : goal.returns-in-Err-insert-clause-unchanged
