@@ -63,6 +63,12 @@ greatest_of Rst = 1
 greatest_of Paint = 255
 greatest_of Annotation = 4294967295
 
+-- all fields by their numbers
+abbrev pub fields : List Field
+fields =
+    Device ∷ EthType ∷ EthDst ∷ EthSrc ∷ ArpOp ∷ Proto ∷ Src ∷ Dst ∷ Dscp ∷ Ecn ∷ Sport ∷ Dport ∷ IcmpType
+    ∷ IpOk ∷ Ports ∷ Mf ∷ FragOff ∷ Ttl ∷ Syn ∷ Ack ∷ Fin ∷ Rst ∷ Paint ∷ Annotation ∷ []
+
 -- a header's value of a field
 abbrev pub field_of : List ℕ → Field → ℕ
 field_of header field = slice_index header (number_of field)

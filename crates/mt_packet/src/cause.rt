@@ -1,7 +1,7 @@
 //! Why a packet is dropped.
 
 /// The causes for which an element drops a packet.
-#[derive(Clone, Copy, Debug, PartialEq, Eq)]
+#[derive(Clone, Copy, Debug, PartialEq, Eq, PartialOrd, Ord)]
 pub enum Cause {
     /// It came to an element that drops every packet.
     Discarded,

@@ -9,6 +9,34 @@ pub const HEADER_FIELDS: usize = 24;
 /// The number of fields that a switch sees.
 pub const VISIBLE_FIELDS: usize = 13;
 
+/// All fields by their numbers.
+pub const FIELDS: [Field; HEADER_FIELDS] = [
+    Field::Device,
+    Field::EthType,
+    Field::EthDst,
+    Field::EthSrc,
+    Field::ArpOp,
+    Field::Proto,
+    Field::Src,
+    Field::Dst,
+    Field::Dscp,
+    Field::Ecn,
+    Field::Sport,
+    Field::Dport,
+    Field::IcmpType,
+    Field::IpOk,
+    Field::Ports,
+    Field::Mf,
+    Field::FragOff,
+    Field::Ttl,
+    Field::Syn,
+    Field::Ack,
+    Field::Fin,
+    Field::Rst,
+    Field::Paint,
+    Field::Annotation,
+];
+
 /// The fields that a switch sees, in the order in which a visible header has them.
 pub(crate) const VISIBLE: [Field; VISIBLE_FIELDS] = [
     Field::Device,
@@ -28,7 +56,7 @@ pub(crate) const VISIBLE: [Field; VISIBLE_FIELDS] = [
 
 /// A field of a header, in the order of their numbers. Addresses and ports are numbers in network
 /// order. Where a frame does not have a field, the field has the value that is named last.
-#[derive(Clone, Copy, Debug, PartialEq, Eq)]
+#[derive(Clone, Copy, Debug, PartialEq, Eq, PartialOrd, Ord)]
 pub enum Field {
     /// The device of arrival, from 1; never absent.
     Device,

@@ -24,7 +24,7 @@ mod writes;
 pub use cause::Cause;
 pub use checksum::{ip_sum, l4_delta};
 pub use ethernet::eth_type;
-pub use field::{Field, HEADER_FIELDS, VISIBLE_FIELDS};
+pub use field::{FIELDS, Field, HEADER_FIELDS, VISIBLE_FIELDS};
 pub use flow::Flow;
 pub use frame::{Frame, Stamped};
 pub use header::Header;

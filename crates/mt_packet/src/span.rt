@@ -1,7 +1,7 @@
 //! A span of numbers.
 
 /// The numbers from `lo` to `hi`, both among them.
-#[derive(Clone, Copy, Debug, PartialEq, Eq)]
+#[derive(Clone, Copy, Debug, PartialEq, Eq, PartialOrd, Ord)]
 pub struct Span {
     pub lo: u64,
     pub hi: u64,
