@@ -1,3 +1,4 @@
+pub mod Alone
 pub mod Moved
 pub mod Named
 pub mod Places
