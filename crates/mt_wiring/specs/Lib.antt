@@ -1,0 +1,4 @@
+pub mod Ways
+pub mod Pushes
+pub mod Numbers
+pub mod States

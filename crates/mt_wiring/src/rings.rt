@@ -1,0 +1,71 @@
+//! Rings of input ports.
+ghost use Rattle.std.specs.Prelude.{◌≡◌, ◌↔◌, ℕ, ◌<◌, true, length, IfOk, IfSome, IfNone, Contains};
+ghost use Rattle.mt_reach.specs.Reach.{targets_of, AreWithin};
+ghost use Rattle.mt_wiring.specs.Ways.{OnRing};
+ghost use Rattle.mt_wiring.specs.Pushes.{IsAmong, IsLowest};
+ghost use Rattle.mt_wiring.specs.Numbers.{IsRingAt};
+
+use crate::behavior::Elements;
+use crate::links::links_of;
+use crate::lowest::lower;
+use crate::ports::ports_of;
+use mt_graph::Wire;
+use mt_reach::{Targets, graph_of, no_marks, reached};
+use std::alloc::{AllocError, Global};
+
+// Whether a node has a link to another.
+fn is_linked(graph: &[Targets], from: usize, to: usize) -> bool
+    ensures { (result ≡ true) ↔ Contains (targets_of graph.now from) to }
+{
+    match graph.get(from) {
+        Some(targets) => targets.as_slice().contains(&to),
+        None => false,
+    }
+}
+
+// Whether one of some nodes has a link to a node.
+fn leads_back(graph: &[Targets], nodes: &[usize], to: usize) -> bool
+    ensures { (result ≡ true) ↔ ((n : ℕ) × Contains nodes.now n × Contains (targets_of graph.now n) to) }
+{
+    for from in nodes {
+        if is_linked(graph, *from, to) {
+            return true;
+        }
+    }
+    false
+}
+
+// The lowest element of ports whose nodes return to themselves.
+fn lowest_returning(
+    alloc: Global,
+    graph: &[Targets],
+    ports: &[(u32, u32)],
+) -> Result<Option<u32>, AllocError>
+    requires { AreWithin graph.now (length ports.now) }
+    ensures { IfOk result (IsLowest (IsAmong (IsRingAt graph.now) ports.now (length ports.now))) }
+{
+    let mut seen = no_marks(alloc, ports.len())?;
+    let mut lowest = None;
+    for number in 0..ports.len() {
+        let nodes = reached(alloc, graph, number, number + 1, &mut seen)?;
+        lowest = lower(leads_back(graph, &nodes, number), ports[number].0, lowest);
+    }
+    Ok(lowest)
+}
+
+/// The lowest element that is on a ring: a packet that entered it by one of its inputs can come to this input again. It
+/// takes time in the number of input ports that wires lead to, times the number of wires.
+pub fn lowest_on_ring<E: Elements>(
+    alloc: Global,
+    elements: &E,
+    wires: &[Wire],
+) -> Result<Option<u32>, AllocError>
+    ensures none { IfOk result (λ lowest. IfNone lowest ((element : ℕ) → OnRing (E.behavior elements.now).leads wires.now element → ⊥)) }
+    ensures found { IfOk result (λ lowest. IfSome lowest (OnRing (E.behavior elements.now).leads wires.now)) }
+    ensures lowest { IfOk result (λ lowest. IfSome lowest (λ element. (lower : ℕ) → lower < element → OnRing (E.behavior elements.now).leads wires.now lower → ⊥)) }
+{
+    let ports = ports_of(alloc, wires)?;
+    let links = links_of(alloc, elements, wires, &ports)?;
+    let graph = graph_of(alloc, ports.keys.len(), &links)?;
+    lowest_returning(alloc, &graph, ports.keys.as_slice())
+}
