@@ -1,0 +1,12 @@
+pub mod Sets
+pub mod Meets
+pub mod Left
+pub mod Cutting
+pub mod Lowest
+pub mod Unseen
+pub mod Headers
+pub mod Shared
+pub mod Shown
+pub mod Refined
+pub mod Apart
+pub mod Rows
