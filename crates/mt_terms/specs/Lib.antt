@@ -1,0 +1,4 @@
+pub mod Orders
+pub mod Terms
+pub mod Trees
+pub mod Writes
