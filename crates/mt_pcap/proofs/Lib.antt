@@ -12,3 +12,7 @@ pub mod Best
 pub mod MergeSteps
 pub mod MergeLaws
 pub mod Alone
+pub mod Streams
+pub mod MergeStreams
+pub mod Apart
+pub mod ToEnd

@@ -4,17 +4,14 @@ use Rattle.std.specs.Prelude.{Option, Some, None, slice_get, slice_set, option_m
 use Rattle.std.specs.List.{filter}
 use Rattle.std.proofs.lemmas.Bool.{cases_lt, cases_eq, eq-eqb, ne_eqb}
 use Rattle.std.proofs.lemmas.Option.{slice_get-get_or, slice_get_within, get_or_from_slice_get}
-use Rattle.std.proofs.lemmas.List.{append-nil, append_cancel_left, length-map, length-set, get_or-set_same, get_or-set_other}
-use Rattle.std.proofs.lemmas.List.Elements.{All-nil, All-cons, All-weaker, All-drop, All-map}
+use Rattle.std.proofs.lemmas.List.{append-nil, append_cancel_left, length-set, get_or-set_same, get_or-set_other}
+use Rattle.std.proofs.lemmas.List.Elements.{All-nil, All-cons, All-weaker, All-drop}
 use Rattle.mt_packet.specs.declared.frame.Stamped.{Stamped}
 use Rattle.mt_pcap.specs.declared.fault.PcapFault.{PcapFault}
-use Rattle.mt_pcap.specs.declared.merging.MergedEnd.{MergedEnd}
-use Rattle.mt_pcap.specs.declared.merging.MergedEnd.TheVariants.{Done, Fault, Frames}
-use Rattle.mt_pcap.specs.declared.reading.WholeCapture.{WholeCapture}
 use Rattle.mt_pcap.specs.Capture.{Capture, ended}
-use Rattle.mt_pcap.specs.Capture.{capture_seen}
-use Rattle.mt_pcap.specs.Merge.{most_frames, first_of, first_stamp, behind, is_at_fault, Taken, MergeStep, ends, gives, step, Merge, stamped, merge_from, merge_of}
-use Rattle.mt_pcap.specs.MergeFacts.{of_device, AreFronts, AreAll, IsMet, AreNumbered, Ascends, IsInOrder, IsNoLater}
+use Rattle.mt_pcap.specs.Laws.{IsWritable}
+use Rattle.mt_pcap.specs.Merge.{MergedEnd, Done, Fault, Frames, most_frames, first_of, first_stamp, behind, is_at_fault, Taken, MergeStep, ends, gives, step, Merge, stamped, merge_from, merge_of}
+use Rattle.mt_pcap.specs.MergeFacts.{of_device, AreFronts, AreAll, IsMet, AreNumbered, Ascends, IsInOrder, IsNoLater, MergeIsSound}
 use Rattle.mt_pcap.proofs.Merges.{merge-ends, merge-full, merge-more}
 use Rattle.mt_pcap.proofs.Best.{stamp_at}
 use Rattle.mt_pcap.proofs.MergeSteps.{Gives, gives_next, FaultAt, EndsBy, by_fault, by_want, ends_by, chosen_best}
@@ -367,13 +364,6 @@ ascending = by_steps (λ room number left m. AllInOrder left → Ascends IsNoLat
 
 -- ---- of a merge from its start
 
--- the captures that were read
-of_captures : (P : ℕ × List ℕ → Type 0) (captures : List WholeCapture) → All (λ c. All P c.records.items) captures → AllLeft (λ device r. P r) (map capture_seen captures)
-of_captures P captures all k c there =
-    let lt = slice_get_within (map capture_seen captures) k c there in
-    let at : All P (get_or (map capture_seen captures) k c).records = All-map (λ (d : Capture). All P d.records) capture_seen captures all k c lt in
-    subst (λ (d : Capture). All P d.records) (get_or_from_slice_get (map capture_seen captures) k c c there) at
-
 module _ (captures : List Capture) (m : Merge) (is : m ≡ merge_of captures) where
   from_start : m ≡ merge_from most_frames 0 captures
   unfolding merge_of
@@ -433,9 +423,20 @@ module _ (captures : List Capture) (m : Merge) (is : m ≡ merge_of captures) wh
   in_order order = subst (λ (n : Merge). Ascends IsNoLater n.frames) (sym from_start)
       (ascending most_frames 0 captures (λ k c there. subst IsInOrder (get_or_from_slice_get captures k c c there) (order k c (slice_get_within captures k c there))))
 
-module _ (captures : List WholeCapture) (m : Merge) (is : m ≡ merge_of (map capture_seen captures)) where
-  pub each : (P : ℕ × List ℕ → Type 0) → All (λ c. All P c.records.items) captures → All (λ f. P (f.stamp, f.frame)) m.frames
-  each P all = hold (map capture_seen captures) m is (λ device r. P r) (of_captures P captures all)
+-- what holds of each record of the captures holds of each frame
+of_captures : (P : ℕ × List ℕ → Type 0) (captures : List Capture) → All (λ c. All P c.records) captures → AllLeft (λ device r. P r) captures
+of_captures P captures all k c there =
+    subst (λ (d : Capture). All P d.records) (get_or_from_slice_get captures k c c there) (all k c (slice_get_within captures k c there))
 
-  pub devices_of : All (λ f. (1 ≤ f.device) × (f.device ≤ length captures)) m.frames
-  devices_of = subst (λ n. All (λ (f : Stamped). (1 ≤ f.device) × (f.device ≤ n)) m.frames) (length-map captures capture_seen) (devices (map capture_seen captures) m is)
+pub merge_sound : MergeIsSound
+merge_sound captures = record {
+  few = few captures (merge_of captures) refl;
+  numbers = numbers captures (merge_of captures) refl;
+  devices = devices captures (merge_of captures) refl;
+  fronts = fronts captures (merge_of captures) refl;
+  all_given = done_stands captures (merge_of captures) refl;
+  fault = fault_stands captures (merge_of captures) refl;
+  limit = limit_stands captures (merge_of captures) refl;
+  ascending = in_order captures (merge_of captures) refl;
+  writable = λ all. hold captures (merge_of captures) refl (λ device r. IsWritable r) (of_captures IsWritable captures all);
+}

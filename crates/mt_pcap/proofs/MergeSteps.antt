@@ -6,10 +6,8 @@ use Rattle.std.proofs.lemmas.Bool.{eqb-true}
 use Rattle.std.proofs.lemmas.List.{nil_from_length}
 use Rattle.std.proofs.lemmas.List.Quantifiers.{position-Some}
 use Rattle.mt_pcap.specs.declared.fault.PcapFault.{PcapFault}
-use Rattle.mt_pcap.specs.declared.merging.MergedEnd.{MergedEnd}
-use Rattle.mt_pcap.specs.declared.merging.MergedEnd.TheVariants.{Done, Fault}
 use Rattle.mt_pcap.specs.Capture.{Capture, ended}
-use Rattle.mt_pcap.specs.Merge.{first_of, first_stamp, behind, is_at_fault, fault_met, next_index, Taken, taken, ends, gives, merge_step_of, step}
+use Rattle.mt_pcap.specs.Merge.{MergedEnd, Done, Fault, first_of, first_stamp, behind, is_at_fault, fault_met, next_index, Taken, taken, ends, gives, merge_step_of, step}
 use Rattle.mt_pcap.proofs.Best.{stamp_at, IsBest, Best, nothing_yet, skipped, sooner_best, best_found, none_found}
 
 mapped : {A B : Type 0} (f : A → B) (o : Option A) (y : B) → option_map f o ≡ Some y → (x : A) × (o ≡ Some x) × (f x ≡ y)
@@ -31,7 +29,7 @@ best_next left i None none before = (before.0, skipped left i before.0 none befo
 best_next left i (Some stamp) here before =
     (Some (sooner_of before.0 (i, stamp)), record { known = sooner_best left i stamp before.0 (sooner_of before.0 (i, stamp)) here (sooner_is before.0 i stamp) before.1 })
 
-best_to : (left : List Capture) (i : ℕ) → (b : Option (ℕ × ℕ)) × Best left i b
+pub best_to : (left : List Capture) (i : ℕ) → (b : Option (ℕ × ℕ)) × Best left i b
 best_to left zero = (None, nothing_yet left)
 best_to left (suc i) =
     let next = best_next left i (stamp_at left i) refl (best_to left i) in

@@ -3,10 +3,8 @@ use Rattle.std.proofs.Common.{◌≡◌, ◌≢◌, ℕ, zero, suc, ◌+◌, ◌
 use Rattle.std.proofs.lemmas.List.{append-nil, length-append}
 use Rattle.mt_packet.specs.declared.frame.Stamped.{Stamped}
 use Rattle.mt_pcap.specs.declared.fault.PcapFault.{PcapFault}
-use Rattle.mt_pcap.specs.declared.merging.MergedEnd.{MergedEnd}
-use Rattle.mt_pcap.specs.declared.merging.MergedEnd.TheVariants.{Done, Fault, Frames}
 use Rattle.mt_pcap.specs.Capture.{Capture}
-use Rattle.mt_pcap.specs.Merge.{most_frames, fault_met, Taken, taken, ends, gives, merge_step_of, step, Merge, stamped, stops, goes_on, merge_from, merge_of}
+use Rattle.mt_pcap.specs.Merge.{MergedEnd, Done, Fault, Frames, most_frames, fault_met, Taken, taken, ends, gives, merge_step_of, step, Merge, stamped, stops, goes_on, merge_from, merge_of}
 
 -- ---- one step
 

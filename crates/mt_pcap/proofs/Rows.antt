@@ -3,7 +3,11 @@ use Rattle.std.proofs.Common.{◌≡◌, ℕ, ◌+◌, ◌-◌, ◌*◌, cond, L
 use Rattle.std.specs.Prelude.{codes, nat_lt}
 use Rattle.mt_pcap.specs.declared.fault.PcapFault.TheVariants.{NotPcap, WrongLink, BadRecord, Torn}
 use Rattle.mt_pcap.specs.Format.{number, four, two, magic, nanoseconds_in, header_bytes, head_bytes}
-use Rattle.mt_pcap.specs.Capture.{resolution_of, form_in, form_of, header_of, record_at, records_of, all_records, capture_of}
+use Rattle.mt_pcap.specs.declared.form.Order.TheVariants.{Big}
+use Rattle.mt_pcap.specs.declared.form.Resolution.TheVariants.{Microseconds}
+use Rattle.mt_pcap.specs.Stream.{within, left_at, in_front}
+use Rattle.mt_pcap.specs.Merge.{step, gives, fault_met, taken, next_index}
+use Rattle.mt_pcap.specs.Capture.{Capture, ended, resolution_of, form_in, form_of, header_of, record_at, records_of, all_records, capture_of}
 use Rattle.mt_pcap.specs.Text.{header_text, record_head_text}
 
 -- the bytes that a text in hexadecimal stands for
@@ -65,3 +69,16 @@ cut = refl
 cut_first : capture_of (big_micro ++ hex (codes "00000001ffffffff")) ≡ record { records = []; end = Some (Torn 24) }
 unfolding capture_of header_of form_of form_in resolution_of number nanoseconds_in all_records records_of record_at big_micro
 cut_first = refl
+
+-- the head of a record was taken, and its data is held
+head_taken : left_at (within (record { order = Big; resolution = Microseconds }) 24 (hex (codes "00000001000000020000000e0000000e"))) frame ≡ in_front (1000002000, frame) (ended None)
+unfolding all_records records_of record_at number nanoseconds_in
+head_taken = refl
+
+abbrev one_at : ℕ → Capture
+one_at stamp = record { records = (stamp, []) ∷ []; end = None }
+
+-- of equal times the record of the lowest device
+lowest_first : step (one_at 7 ∷ one_at 5 ∷ one_at 5 ∷ []) ≡ gives (record { device = 2; given = (5, []); left = one_at 7 ∷ ended None ∷ one_at 5 ∷ [] })
+unfolding step fault_met taken next_index
+lowest_first = refl

@@ -1,6 +1,11 @@
 pub mod Format
 pub mod Capture
 pub mod Text
+pub mod Stream
+pub mod Standings
 pub mod Laws
 pub mod Merge
 pub mod MergeFacts
+pub mod Sources
+pub mod Filling
+pub mod StreamLaws

@@ -3,13 +3,18 @@ use Rattle.std.specs.Prelude.{ℕ, zero, suc, ◌+◌, ◌==◌, ◌&&◌, Bool,
 use Rattle.std.specs.List.{list_all}
 use Rattle.mt_packet.specs.declared.frame.Stamped.{Stamped}
 use Rattle.mt_pcap.specs.declared.fault.PcapFault.{PcapFault}
-use Rattle.mt_pcap.specs.declared.merging.MergedEnd.{MergedEnd}
-use Rattle.mt_pcap.specs.declared.merging.MergedEnd.TheVariants.{Done, Fault, Frames}
 use Rattle.mt_pcap.specs.Capture.{Capture}
 
 -- the most frames that are given
 abbrev pub most_frames : ℕ
 most_frames = 16777216
+
+-- What ends a merge: every record of every capture was given; the records of a device were all given,
+-- and its capture ends with a fault; or so many frames would be given, and may not be.
+pub data MergedEnd : Type 0 where
+  Done : MergedEnd
+  Fault : ℕ → PcapFault → MergedEnd
+  Frames : ℕ → MergedEnd
 
 -- ---- what is left of one capture
 

@@ -3,15 +3,9 @@ use Rattle.std.specs.Prelude.{◌≡◌, ◌<◌, ◌≤◌, ◌⊎◌, ℕ, ◌
 use Rattle.std.specs.List.{filter}
 use Rattle.mt_packet.specs.declared.frame.Stamped.{Stamped}
 use Rattle.mt_pcap.specs.declared.fault.PcapFault.{PcapFault}
-use Rattle.mt_pcap.specs.declared.merging.Merged.{Merged}
-use Rattle.mt_pcap.specs.declared.merging.MergedEnd.{MergedEnd}
-use Rattle.mt_pcap.specs.declared.merging.MergedEnd.TheVariants.{Done, Fault}
 use Rattle.mt_pcap.specs.Capture.{Capture}
-use Rattle.mt_pcap.specs.Merge.{Merge, most_frames, merge_of}
-
--- a merge that was made
-abbrev pub merge_seen : Merged → Merge
-merge_seen m = record { frames = m.frames.items; end = m.end }
+use Rattle.mt_pcap.specs.Laws.{IsWritable}
+use Rattle.mt_pcap.specs.Merge.{Merge, MergedEnd, Done, Fault, Frames, most_frames, merge_of}
 
 -- the frames are numbered from 0
 abbrev pub AreNumbered : List Stamped → Type 0
@@ -56,6 +50,21 @@ IsInOrder c = Ascends (λ r s. r.0 ≤ s.0) c.records
 -- a frame is earlier than another, or of equal time and of no higher device
 abbrev pub IsNoLater : Stamped → Stamped → Type 0
 IsNoLater f g = (f.stamp < g.stamp) ⊎ ((f.stamp ≡ g.stamp) × (f.device ≤ g.device))
+
+-- what holds of the merge of captures
+pub record IsMergeOf (captures : List Capture) (m : Merge) : Type 0 where
+  pub few : length m.frames ≤ most_frames
+  pub numbers : AreNumbered m.frames
+  pub devices : All (λ f. (1 ≤ f.device) × (f.device ≤ length captures)) m.frames
+  pub fronts : AreFronts captures m.frames
+  pub all_given : m.end ≡ Done → AreAll captures m.frames
+  pub fault : (device : ℕ) (fault : PcapFault) → m.end ≡ Fault device fault → IsMet captures m.frames device fault
+  pub limit : (count : ℕ) → m.end ≡ Frames count → (count ≡ most_frames + 1) × (length m.frames ≡ most_frames)
+  pub ascending : All IsInOrder captures → Ascends IsNoLater m.frames
+  pub writable : All (λ c. All IsWritable c.records) captures → All (λ f. IsWritable (f.stamp, f.frame)) m.frames
+
+abbrev pub MergeIsSound : Type 0
+MergeIsSound = (captures : List Capture) → IsMergeOf captures (merge_of captures)
 
 -- records as frames of device 1, numbered from a number on
 abbrev pub numbered_from : ℕ → List (ℕ × List ℕ) → List Stamped

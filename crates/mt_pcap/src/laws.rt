@@ -1,6 +1,7 @@
 //! The laws of the words that the contracts use.
 ghost use Rattle.mt_pcap.specs.Laws.{CaptureStands, CaptureStandsAlone, CaptureReadsBack, CaptureIsSound};
-ghost use Rattle.mt_pcap.specs.MergeFacts.{MergeOfOne};
+ghost use Rattle.mt_pcap.specs.StreamLaws.{ReadsToEnd, MergesToEnd, MergesToLimit};
+ghost use Rattle.mt_pcap.specs.MergeFacts.{MergeIsSound, MergeOfOne};
 
 /// All bytes stand, in the words of the file format, for the capture that is read of them.
 pub fn capture_stands()
@@ -23,7 +24,24 @@ pub fn capture_is_sound()
     ensures { CaptureIsSound }
 {}
 
+/// A merge gives the records of each capture in their order, all of them or those before the one fault
+/// that ends it, numbered, and by their times where the times of each capture do not fall.
+pub fn merge_is_sound()
+    ensures { MergeIsSound }
+{}
+
 /// A capture that is merged alone gives its records, whatever their times, and ends as it ends.
 pub fn merge_of_one()
     ensures { MergeOfOne }
+{}
+
+/// What a reader gives one after the other, to its end, is the whole capture.
+pub fn reads_to_end()
+    ensures { ReadsToEnd }
+{}
+
+/// What a merge gives one after the other, to its end or to its limit, is the merge of the whole captures.
+pub fn merges_to_end()
+    ensures to_end { MergesToEnd }
+    ensures to_limit { MergesToLimit }
 {}

@@ -1,18 +1,24 @@
 //! Captures: the classic libpcap file format, version 2.4, with Ethernet frames. The theorem: bytes stand for
-//! one list of records and one end, which `whole` reads (`laws`), and captures are merged by time. Read
-//! `specs/Format.antt` first, the format as a writer sees it, then `reading.rt` and `merging.rt`.
+//! one list of records and one end (`laws`), which `whole` reads at once and `Reader` record by record, however
+//! the file cuts its reads; `Merge` gives the records of several captures by time, and `Writer` writes records.
+//! Read `specs/Format.antt` first, the format as a writer sees it, then `specs/Capture.antt`, `specs/Merge.antt`
+//! and `specs/Stream.antt`, then `reader.rt` and `merging.rt`.
 #![tactic(auto)]
 
 mod fault;
 mod form;
 pub mod laws;
 mod merging;
+mod reader;
 mod reading;
+mod writer;
 mod writing;
 
 pub use fault::PcapFault;
-pub use merging::{Merged, MergedEnd, merge_whole};
+pub use merging::{Merge, MergeFault, can_merge};
+pub use reader::Reader;
 pub use reading::{WholeCapture, whole};
+pub use writer::{WriteFault, Writer};
 pub use writing::{header, record_head};
 
 #[cfg(test)]

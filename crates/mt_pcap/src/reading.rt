@@ -10,10 +10,10 @@ use mt_packet::Frame;
 use std::alloc::{AllocError, Global};
 
 /// The length of a capture's header.
-const HEADER_LENGTH: usize = 24;
+pub(crate) const HEADER_LENGTH: usize = 24;
 
 /// The length of a record's head, which stands before the bytes of its frame.
-const HEAD_LENGTH: usize = 16;
+pub(crate) const HEAD_LENGTH: usize = 16;
 
 /// The link type of Ethernet.
 const ETHERNET: u32 = 1;
@@ -30,7 +30,7 @@ pub struct WholeCapture {
 
 /// The form that a capture's header tells. The link type is the header's last number.
 #[tactic(auto, unfolding(crate::specs::Capture::header_of))]
-fn header_of(bytes: &[u8]) -> Result<Form, PcapFault>
+pub(crate) fn header_of(bytes: &[u8]) -> Result<Form, PcapFault>
     ensures value { result ≡ header_of bytes.now }
     ensures long { IfOk result (λ _. 24 ≤ length bytes.now) }
 {
@@ -53,15 +53,15 @@ fn header_of(bytes: &[u8]) -> Result<Form, PcapFault>
 /// fraction of a second, here in nanoseconds, and how many bytes of the frame follow. The fourth, how
 /// long the frame was on the wire, is not looked at.
 #[derive(Clone, Copy)]
-struct RecordHead {
-    seconds: u32,
-    fraction: u64,
-    captured: u32,
+pub(crate) struct RecordHead {
+    pub(crate) seconds: u32,
+    pub(crate) fraction: u64,
+    pub(crate) captured: u32,
 }
 
 impl RecordHead {
     /// Whether the fraction is a second or more, or the frame is too long.
-    fn is_improper(&self) -> bool
+    pub(crate) fn is_improper(&self) -> bool
         ensures { result ≡ (nat_le second self.now.fraction || nat_lt longest self.now.captured) }
     {
         self.fraction >= SECOND || self.captured > LONGEST
@@ -69,7 +69,7 @@ impl RecordHead {
 }
 
 /// The head at the front of the bytes.
-fn head_of(form: Form, bytes: &[u8]) -> RecordHead
+pub(crate) fn head_of(form: Form, bytes: &[u8]) -> RecordHead
     requires { HEAD_LENGTH ≤ length bytes.now }
     ensures seconds { result.seconds ≡ number form.order bytes.now }
     ensures fraction { result.fraction

@@ -1,12 +1,13 @@
-//! Merges of captures, each row worked by hand from the rules.
-use crate::{Merged, MergedEnd, PcapFault, WholeCapture, header, merge_whole, record_head, whole};
-use mt_packet::Frame;
+//! Merges of captures as they are read, each row worked by hand from the rules.
+use super::Pieces;
+use crate::{Merge, Reader, can_merge, header, record_head};
+use mt_io::{Call, Files, MemoryFiles};
 use std::alloc::{AllocError, Global};
 use std::test::*;
 
 /// Captures in words, a comma between two of them, and what is given: for each frame its number, device,
-/// time and byte, and then the end. A capture's record is its time and a byte; `!` is a record that is
-/// cut, at 24, and `?` that there is no header.
+/// time and byte, and then the end. A capture's record is its time and a byte, 17 bytes in the file; `!` is
+/// a record that is cut, and `?` one that says a second and more.
 const MERGES: [(&str, &str); 19] = [
     // two captures, turn by turn
     (
@@ -21,117 +22,168 @@ const MERGES: [(&str, &str); 19] = [
     ("5a 1b 2c,3d 4e", "0/2:3d 1/2:4e 2/1:5a 3/1:1b 4/1:2c Done"),
     ("2a 9b 1c,5d 6e", "0/1:2a 1/2:5d 2/2:6e 3/1:9b 4/1:1c Done"),
     // a fault as soon as the records before it are given, though others have records left
-    ("1a !,2b 3c", "0/1:1a Fault 1 Torn 24"),
-    ("4a 5b,1c 2d !", "0/2:1c 1/2:2d Fault 2 Torn 24"),
-    ("1a 3b,2c !", "0/1:1a 1/2:2c Fault 2 Torn 24"),
-    ("1a 2b,?", "Fault 2 NotPcap"),
+    ("1a !,2b 3c", "0/1:1a Fault 1 Torn 41"),
+    ("4a 5b,1c 2d !", "0/2:1c 1/2:2d Fault 2 Torn 58"),
+    ("1a 3b,2c !", "0/1:1a 1/2:2c Fault 2 Torn 41"),
+    ("1a 2b,?", "Fault 2 BadRecord 24"),
     // a fault whose capture has records left is not met yet
-    ("1a,2b !", "0/1:1a 1/2:2b Fault 2 Torn 24"),
+    ("1a,2b !", "0/1:1a 1/2:2b Fault 2 Torn 41"),
     // two faults: the one that is met first, and where both are met the lowest device's
-    ("3a !,2b !", "0/2:2b Fault 2 Torn 24"),
-    ("1a,?,!", "Fault 2 NotPcap"),
+    ("3a !,2b !", "0/2:2b Fault 2 Torn 41"),
+    ("1a,?,!", "Fault 2 BadRecord 24"),
     ("!,?", "Fault 1 Torn 24"),
-    ("?,!", "Fault 1 NotPcap"),
+    ("?,!", "Fault 1 BadRecord 24"),
     // one capture alone
     ("3a 1b 2c", "0/1:3a 1/1:1b 2/1:2c Done"),
-    ("3a 1b !", "0/1:3a 1/1:1b Fault 1 Torn 24"),
+    ("3a 1b !", "0/1:3a 1/1:1b Fault 1 Torn 58"),
     // captures with no record
     ("", "Done"),
     (",1a,", "0/2:1a Done"),
 ];
 
-fn capture_of(alloc: Global, words: &str) -> Result<WholeCapture, AllocError> {
-    let mut records = Vec::new(alloc);
-    let mut end = None;
+/// The names of three files.
+const NAMES: [&str; 3] = ["a", "b", "c"];
+
+fn capture_of(alloc: Global, words: &str) -> Result<Vec<u8>, AllocError> {
+    let mut bytes = Vec::new(alloc);
+    bytes.extend_from_slice(&header())?;
     for word in words.split(' ') {
         match word.as_bytes() {
-            [b'!'] => end = Some(PcapFault::Torn(24)),
-            [b'?'] => end = Some(PcapFault::NotPcap),
+            [b'!'] => bytes.extend_from_slice(&[0; 5])?,
+            [b'?'] => bytes.extend_from_slice(&[255; 16])?,
             [stamp @ b'0'..=b'9', byte] => {
-                let frame = Frame::new(Vec::from_slice(alloc, &[*byte])?);
-                records.push((u64::from(*stamp - b'0'), frame))?;
+                bytes.extend_from_slice(&record_head(u64::from(*stamp - b'0'), 1))?;
+                bytes.push(*byte)?;
             }
             _ => {}
         }
     }
-    Ok(WholeCapture { records, end })
+    Ok(bytes)
 }
 
-fn told(alloc: Global, merged: &Merged) -> Result<String, AllocError> {
+/// What is given of the files of captures that are opened.
+fn told<F: Files>(alloc: Global, files: &mut F, readers: Vec<Reader>) -> Result<String, Fail> {
+    if !can_merge(&readers) {
+        return Err("captures that can be merged".into());
+    }
+    let mut merge = Merge::new(alloc, readers)?;
     let mut text = String::new(alloc);
-    for given in &merged.frames {
-        text.push_str(&format!(in alloc; "{}/{}:{}", given.number, given.device, given.stamp)?)?;
-        for byte in given.frame.bytes() {
-            text.push(char::from(*byte))?;
+    for _ in 0..100 {
+        if merge.given() > 16_777_216 {
+            return Err("few frames".into());
         }
-        text.push(' ')?;
-    }
-    match merged.end {
-        MergedEnd::Done => text.push_str("Done")?,
-        MergedEnd::Fault(device, fault) => {
-            text.push_str(&format!(in alloc; "Fault {device} {fault}")?)?;
+        match merge.next(files) {
+            Ok(Some(given)) => {
+                text.push_str(&format!(in alloc;
+                    "{}/{}:{}",
+                    given.number, given.device, given.stamp
+                )?)?;
+                for byte in given.frame.bytes() {
+                    text.push(char::from(*byte))?;
+                }
+                text.push(' ')?;
+            }
+            Ok(None) => {
+                text.push_str("Done")?;
+                return Ok(text);
+            }
+            Err(met) => {
+                text.push_str(&format!(in alloc; "Fault {} {}", met.device, met.fault)?)?;
+                return Ok(text);
+            }
         }
-        MergedEnd::Frames(count) => text.push_str(&format!(in alloc; "Frames {count}")?)?,
     }
-    Ok(text)
+    Err("fewer than 100 frames".into())
+}
+
+/// What is given of captures in words, a read of one file failing.
+fn merged(
+    alloc: Global,
+    captures: &str,
+    most: usize,
+    name: &str,
+    failing: u64,
+) -> Result<String, Fail> {
+    let mut files = Pieces {
+        files: MemoryFiles::new(alloc),
+        most,
+    };
+    files.files.fail(name, Call::Read, failing)?;
+    let mut readers = Vec::new(alloc);
+    for (index, words) in captures.split(',').enumerate() {
+        let name = *NAMES.get(index).ok_or("at most three captures")?;
+        files.files.hold(name, &capture_of(alloc, words)?)?;
+        match Reader::open(alloc, &mut files, name) {
+            Ok(reader) => readers.push(reader)?,
+            Err(_) => return Err("a capture".into()),
+        }
+    }
+    told(alloc, &mut files, readers)
 }
 
 #[test]
 fn captures_are_merged(rt: HostRuntime) -> Result<(), Fail> {
-    for (words, want) in MERGES {
-        let mut captures = Vec::new(rt.alloc());
-        for capture in words.split(',') {
-            captures.push(capture_of(rt.alloc(), capture)?)?;
+    for (captures, want) in MERGES {
+        for most in [1, 65_536] {
+            let given = merged(rt.alloc(), captures, most, "d", 1)?;
+            assert_eq!(rt; given.as_str(), want, "at {captures}");
         }
-        assert!(rt; captures.len() <= 32);
-        let merged = merge_whole(rt.alloc(), captures)?;
-        assert_eq!(rt; told(rt.alloc(), &merged)?.as_str(), want, "at {words}");
     }
-    // No capture at all.
-    let merged = merge_whole(rt.alloc(), Vec::new(rt.alloc()))?;
-    assert_eq!(rt; told(rt.alloc(), &merged)?.as_str(), "Done");
-    assert_eq!(rt;
-        one_that_was_read(rt.alloc())?.as_str(),
-        "0/1:7a 1/1:3b 2/1:5c Fault 1 Torn 75"
-    );
+    // The first read of a file is that of its header, and then each record takes two.
+    for (name, failing, want) in [
+        ("a", 2, "Fault 1 ReadFault"),
+        ("a", 3, "Fault 1 ReadFault"),
+        ("b", 2, "Fault 2 ReadFault"),
+        ("a", 4, "0/1:1a Fault 1 ReadFault"),
+        ("b", 5, "0/1:1a 1/2:2c Fault 2 ReadFault"),
+        ("a", 6, "0/1:1a 1/2:2c 2/1:3b Fault 1 ReadFault"),
+        ("b", 6, "0/1:1a 1/2:2c 2/1:3b 3/2:4d Fault 2 ReadFault"),
+        ("b", 7, "0/1:1a 1/2:2c 2/1:3b 3/2:4d Done"),
+    ] {
+        let given = merged(rt.alloc(), "1a 3b,2c 4d", 65_536, name, failing)?;
+        assert_eq!(rt; given.as_str(), want, "at {name} {failing}");
+    }
     Ok(())
 }
 
-/// A capture that was read, merged alone: its records, in their order.
-fn one_that_was_read(alloc: Global) -> Result<String, Fail> {
-    let mut text = Vec::new(alloc);
-    text.extend_from_slice(&header())?;
-    for (stamp, byte) in [(7, b'a'), (3, b'b'), (5, b'c')] {
-        text.extend_from_slice(&record_head(stamp, 1))?;
-        text.push(byte)?;
+/// Some captures of one record each, of the last device's first.
+fn many(alloc: Global, files: &mut MemoryFiles, count: u64) -> Result<Vec<Reader>, Fail> {
+    let mut readers = Vec::new(alloc);
+    for device in 0..count.min(90) {
+        let name = format!(in alloc; "file {device}")?;
+        let mut capture = Vec::new(alloc);
+        capture.extend_from_slice(&header())?;
+        capture.extend_from_slice(&record_head(100 - device, 0))?;
+        files.hold(&name, &capture)?;
+        match Reader::open(alloc, files, &name) {
+            Ok(reader) => readers.push(reader)?,
+            Err(_) => return Err("a capture".into()),
+        }
     }
-    text.extend_from_slice(&record_head(9, 2))?;
-    let mut captures = Vec::new(alloc);
-    captures.push(whole(alloc, &text)?)?;
-    if captures.len() > 32 {
-        return Err("one capture".into());
-    }
-    let merged = merge_whole(alloc, captures)?;
-    Ok(told(alloc, &merged)?)
+    Ok(readers)
 }
 
-/// 32 captures, of the last device's first.
 #[test]
 fn as_many_devices_as_there_may_be(rt: HostRuntime) -> Result<(), Fail> {
-    let mut captures = Vec::new(rt.alloc());
-    for device in 0..32u64 {
-        let mut records = Vec::new(rt.alloc());
-        records.push((100 - device, Frame::new(Vec::new(rt.alloc()))))?;
-        captures.push(WholeCapture { records, end: None })?;
+    let mut files = MemoryFiles::new(rt.alloc());
+    let readers = many(rt.alloc(), &mut files, 32)?;
+    let given = told(rt.alloc(), &mut files, readers)?;
+    assert!(rt; given.starts_with("0/32:69 1/31:70 2/30:71 "));
+    assert!(rt; given.ends_with(" 30/2:99 31/1:100 Done"));
+    // No capture at all, one too many, one that has given a record, and a file twice.
+    let none = told(rt.alloc(), &mut files, Vec::new(rt.alloc()))?;
+    assert_eq!(rt; none.as_str(), "Done");
+    assert!(rt; !can_merge(&many(rt.alloc(), &mut files, 33)?));
+    let mut readers = many(rt.alloc(), &mut files, 2)?;
+    assert!(rt; can_merge(&readers));
+    if let Some(first) = readers.first_mut()
+        && first.given() == 0
+    {
+        assert!(rt; first.next(&mut files).is_ok());
     }
-    assert!(rt; captures.len() <= 32);
-    let merged = merge_whole(rt.alloc(), captures)?;
-    assert_eq!(rt; merged.frames.len(), 32);
-    let mut device = 32;
-    for given in &merged.frames {
-        assert_eq!(rt; given.device, device);
-        device = device.saturating_sub(1);
-    }
-    assert!(rt; merged.end == MergedEnd::Done);
+    assert!(rt; !can_merge(&readers));
+    let mut readers = many(rt.alloc(), &mut files, 2)?;
+    readers.append(&mut many(rt.alloc(), &mut files, 1)?)?;
+    assert!(rt; !can_merge(&readers));
     Ok(())
 }

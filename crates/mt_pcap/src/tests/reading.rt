@@ -5,12 +5,12 @@ use std::alloc::{AllocError, Global};
 use std::test::*;
 
 /// A UDP datagram in an Ethernet frame.
-const DATAGRAM: &str =
+pub(super) const DATAGRAM: &str =
     "020000000002020000000001080045000020000100004011468b0a000005c633640913880035000cf31061626364";
 
 /// Captures, and what they are read as: first the limits of the format, and then what another
 /// reader made of captures.
-const CAPTURES: [(&str, &str); 35] = [
+pub(super) const CAPTURES: [(&str, &str); 35] = [
     // a header alone
     ("4d3cb2a10200040000000000000000000000040001000000", "end"),
     // microseconds, big-endian

@@ -1,6 +1,6 @@
-use Rattle.std.proofs.Common.{◌≡◌, map}
-use Rattle.mt_pcap.specs.Capture.{capture_seen}
+use Rattle.std.proofs.Common.{◌≡◌}
+use Rattle.mt_pcap.specs.Sources.{begun}
 use Rattle.mt_pcap.proofs.merging.queues_of.Given as goal
 
-abbrev pub invariant-loop-capture : goal.invariant-loop-capture
-invariant-loop-capture l = l.queues.items ≡ map capture_seen l.yielded
+abbrev pub invariant-loop-reader : goal.invariant-loop-reader
+invariant-loop-reader l = l.queues.items ≡ begun l.yielded
