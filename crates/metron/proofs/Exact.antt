@@ -1,20 +1,21 @@
 -- A run answers what is due.
-use Rattle.std.proofs.Common.{◌≡◌, ◌⊎◌, inl, inr, ⊎_elim, ℕ, ◌<◌, ◌≤◌, true, false, List, [], ◌∷◌, length, Option, Some, None, refl, sym, ◌∙◌, ap, subst, arith}
-use Rattle.std.specs.Prelude.{IfSome, IsSomeAnd, nat_lt, if◌then◌else◌, option_map, option_and_then}
+use Rattle.std.proofs.Common.{◌≡◌, ◌⊎◌, inl, inr, ⊎_elim, ℕ, ◌<◌, ◌≤◌, true, false, List, [], ◌∷◌, length, Option, Some, None, Ok, Err, refl, sym, ◌∙◌, ap, subst, arith}
+use Rattle.std.specs.Prelude.{IfSome, Result, nat_lt, if◌then◌else◌, option_map, option_and_then}
 use Rattle.std.proofs.lemmas.Bool.Decides.{nat_tests}
 use Rattle.mt_io.specs.Files.{Rose}
 use Rattle.mt_elements.specs.ChainState.{ChainState}
 use Rattle.mt_pcap.specs.declared.fault.PcapFault.{PcapFault}
 use Rattle.mt_pcap.specs.Capture as captures
 use Rattle.metron.specs.Command.{Words, command_of}
-use Rattle.metron.specs.Inputs.{Told, chain_in, capture_limit, is_no_header, IsChainRead, IsScriptRead, IsCaptureRead, ChainFault, ScriptFault, CaptureFault}
+use Rattle.metron.specs.Inputs.{Told, ReadsAs, capture_limit, is_no_header, IsChainRead, IsScriptRead, IsCaptureRead, IsChainFault, ScriptFault, CaptureFault}
 use Rattle.metron.specs.Serving.{ServeFault}
 use Rattle.metron.specs.Causes.{Held, State, binds, output_device, end_of, IsUntouched, IsRun}
 use Rattle.metron.specs.Causes.IsRun.{no_command, chain_refused, not_bound, script_refused, capture_refused, broken_off, ended}
-use Rattle.metron.specs.Due.{capture_due, script_due, bound_due, chain_due, command_due, due, IsInterruption, IsExact, NoneFailed, IsFinished, IsEarly}
+use Rattle.metron.specs.Due.{capture_due, script_due, bound_due, reading_due, IsOwed, IsInterruption, IsExact, IsComplete, NoneFailed, IsFinished, IsEarly}
 use Rattle.metron.specs.declared.outcome.FileId.TheVariants as file
 use Rattle.metron.specs.declared.outcome.Fault.{Fault}
-use Rattle.metron.specs.declared.outcome.Fault.TheVariants.{Done, UsageWord, Unbuilt, TooLong, Capture, Read, Write, Memory}
+use Rattle.metron.specs.declared.outcome.Fault.TheVariants.{Done, UsageWord, Unbuilt, TooLong, Click, Capture, Read, Write, Memory}
+use Rattle.metron.specs.declared.outcome.Fault.TheVariants as fault
 
 -- the answer, or what came in its place
 abbrev Answers : Option Fault → Fault → Type 0 → Type 0
@@ -23,6 +24,15 @@ Answers answer fault interrupted = IfSome answer (λ d. (fault ≡ d) ⊎ interr
 pub interrupts : (answer : Option Fault) (fault : Fault) (I : Type 0) → I → Answers answer fault I
 interrupts None fault I i = tt
 interrupts (Some d) fault I i = inr i
+
+-- an answer, or what came in its place, one of the two
+apart : (answer : Option Fault) (fault : Fault) (I : Type 0) → Answers answer fault I → IfSome answer (λ d. fault ≡ d) ⊎ I
+apart None fault I h = inl tt
+apart (Some d) fault I h = h
+
+-- an answer that the text of a chain owes
+abbrev Owes : Told → Words → Held → Fault → Type 0
+Owes told words held fault = IfSome told (λ text. (reading : Result ChainState Fault) × ReadsAs text reading × IfSome (reading_due reading words held) (λ answer. fault ≡ answer))
 
 too_long : (bytes : List ℕ) (e : Fault) → capture_limit < length bytes → (if nat_lt capture_limit (length bytes) then TooLong (file.Capture 1) else e) ≡ TooLong (file.Capture 1)
 too_long bytes e long = grind (arith, nat_tests)
@@ -50,19 +60,24 @@ module _ (fault : Fault) (I : Type 0) where
   at_unbound chain words held unbound is =
       subst (λ b. Answers (if b then option_and_then (λ s. script_due s (held words.capture)) (held words.script) else Some (UsageWord 0)) fault I) (sym unbound) (inl is)
 
-  at_chain : (told : Told) (chain : ChainState) (words : Words) (held : Held) → IsChainRead told chain → Answers (bound_due chain words held) fault I → Answers (option_and_then (λ text. chain_due (chain_in text) words held) told) fault I
-  at_chain None chain words held is later = tt
-  at_chain (Some text) chain words held is later = subst (λ (o : Option ChainState). Answers (chain_due o words held) fault I) (sym is) later
+  at_chain : (told : Told) (chain : ChainState) (words : Words) (held : Held) → IsChainRead told chain → Answers (bound_due chain words held) fault I → Owes told words held fault ⊎ I
+  at_chain None chain words held is later = inl tt
+  at_chain (Some text) chain words held is later = elim (apart (bound_due chain words held) fault I later) [
+    | inl answered ↦ inl (Ok chain, (is.1, is.0), answered)
+    | inr interrupted ↦ inr interrupted
+  ]
 
 -- ---- faults
 
 module _ (J : Fault → Type 0) (memory : J Memory) where
-  chain_fault : (told : Told) (before after : ℕ) (words : Words) (held : Held) (fault : Fault) → (Rose before after → J (Read file.Chain)) → ChainFault told before after fault
-      → Answers (option_and_then (λ text. chain_due (chain_in text) words held) told) fault (J fault)
-  chain_fault None before after words held fault read why = tt
-  chain_fault (Some text) before after words held (Unbuilt file.Chain) read why = subst (λ (o : Option ChainState). Answers (chain_due o words held) (Unbuilt file.Chain) (J (Unbuilt file.Chain))) (sym why) (inl refl)
-  chain_fault (Some text) before after words held (Read file.Chain) read why = interrupts (chain_due (chain_in text) words held) (Read file.Chain) (J (Read file.Chain)) (read why)
-  chain_fault (Some text) before after words held Memory read why = interrupts (chain_due (chain_in text) words held) Memory (J Memory) memory
+  chain_fault : (told : Told) (before after : ℕ) (words : Words) (held : Held) (fault : Fault) → (Rose before after → J (Read file.Chain)) → IsChainFault told before after fault → Owes told words held fault ⊎ J fault
+  chain_fault None before after words held fault read why = inl tt
+  chain_fault (Some text) before after words held (TooLong file.Chain) read why = inl (Err (TooLong file.Chain), why, refl)
+  chain_fault (Some text) before after words held (Click told) read why = inl (Err (Click told), why, refl)
+  chain_fault (Some text) before after words held (fault.Chain told) read why = inl (Err (fault.Chain told), why, refl)
+  chain_fault (Some text) before after words held (Unbuilt file.Chain) read why = inl (Err (Unbuilt file.Chain), why, refl)
+  chain_fault (Some text) before after words held (Read file.Chain) read why = inr (read why)
+  chain_fault (Some text) before after words held Memory read why = inr memory
   chain_fault (Some text) before after words held fault read why = absurd why
 
   not_empty : (text : List ℕ) (capture : Told) → 0 < length text → Answers (script_due text capture) (Unbuilt file.Script) (J (Unbuilt file.Script))
@@ -101,7 +116,7 @@ pub of_command : (words : List (List ℕ)) (old new : State) (fault : Fault) (c 
 of_command words old new fault c is exact_here = subst (λ (o : Option Words). IsExact o old new fault) (sym is) exact_here
 
 pub exact : (words : List (List ℕ)) (old new : State) (order : List ℕ) (fault : Fault) → IsRun words old new order fault → IsExact (command_of words) old new fault
-exact words old new order fault (no_command none is untouched) = subst (λ (o : Option Words). IsExact o old new fault) (sym none) (inl is)
+exact words old new order fault (no_command none is untouched) = subst (λ (o : Option Words). IsExact o old new fault) (sym none) is
 exact words old new order fault (chain_refused c is why untouched) =
     of_command words old new fault c is (chain_fault (λ f. IsInterruption old new f c) tt (old.held c.chain) _ _ c old.held fault (λ rose. rose) why)
 exact words old new order fault (not_bound c chain stands unbound is untouched) =
@@ -120,7 +135,8 @@ exact words old new order fault (capture_refused c chain stands why untouched) =
     (capture_fault (λ f. IsInterruption old new f c) tt (old.held c.capture) _ _ fault (λ device one rose. (one, rose)) why))))
 exact words old new order fault (broken_off c chain capture stands why others served) =
     of_command words old new fault c stands.before.before.before.words_are
-    (serve_fault (λ f. IsInterruption old new f c) tt (command_due (Some c) old.held) _ _ _ fault (λ number rose. rose) why)
+    (at_chain fault (IsInterruption old new fault c) (old.held c.chain) chain c old.held stands.before.before.before.chain_is
+    (serve_fault (λ f. IsInterruption old new f c) tt (bound_due chain c old.held) _ _ _ fault (λ number rose. rose) why))
 exact words old new order fault (ended c chain capture stands is others served) =
     of_command words old new fault c stands.before.before.before.words_are
     (at_chain fault (IsInterruption old new fault c) (old.held c.chain) chain c old.held stands.before.before.before.chain_is
@@ -138,17 +154,12 @@ only_memory old new c (Write (file.Output device)) none i = absurd (none.writes 
 only_memory old new c Memory none i = refl
 only_memory old new c fault none i = absurd i
 
-no_interruption : (command : Option Words) (old new : State) (fault : Fault) → NoneFailed old new → IsSomeAnd command (IsInterruption old new fault) → fault ≡ Memory
-no_interruption None old new fault none i = absurd i
-no_interruption (Some c) old new fault none i = only_memory old new c fault none i
+pub answered : (command : Option Words) (old new : State) (fault : Fault) → NoneFailed old new → IsExact command old new fault → IsComplete command old.held fault
+answered None old new fault none given = given
+answered (Some c) old new fault none given = ⊎_elim inl (λ i. inr (only_memory old new c fault none i)) given
 
-pub answered : (command : Option Words) (old new : State) (fault : Fault) (answer : Option Fault) (d : Fault) → NoneFailed old new → answer ≡ Some d
-    → IfSome answer (λ a. (fault ≡ a) ⊎ IsSomeAnd command (IsInterruption old new fault)) → (fault ≡ d) ⊎ (fault ≡ Memory)
-answered command old new fault None d none is given = cc
-answered command old new fault (Some a) d none is given = let same : a ≡ d = cc in ⊎_elim (λ e. inl (e ∙ same)) (λ i. inr (no_interruption command old new fault none i)) given
-
-pub complete : (words : List (List ℕ)) (old new : State) (order : List ℕ) (fault d : Fault) → IsRun words old new order fault → NoneFailed old new → due words old.held ≡ Some d → (fault ≡ d) ⊎ (fault ≡ Memory)
-complete words old new order fault d run none is = answered (command_of words) old new fault (due words old.held) d none is (exact words old new order fault run)
+pub complete : (words : List (List ℕ)) (old new : State) (order : List ℕ) (fault : Fault) → IsRun words old new order fault → NoneFailed old new → IsComplete (command_of words) old.held fault
+complete words old new order fault run none = answered (command_of words) old new fault none (exact words old new order fault run)
 
 ends_sound : (end : Option PcapFault) → Done ≡ end_of end → end ≡ None
 ends_sound None is = refl
@@ -156,7 +167,7 @@ ends_sound (Some why) is = cc
 
 pub finished : (words : List (List ℕ)) (old new : State) (order : List ℕ) (fault : Fault) → IsRun words old new order fault → fault ≡ Done → IsFinished words old new order
 finished words old new order fault (no_command none is untouched) done = cc
-finished words old new order fault (chain_refused c is why untouched) done = absurd (subst (λ f. ChainFault (old.held c.chain) (old.failed_reads c.chain) (new.failed_reads c.chain) f) done why)
+finished words old new order fault (chain_refused c is why untouched) done = absurd (subst (λ f. IsChainFault (old.held c.chain) (old.failed_reads c.chain) (new.failed_reads c.chain) f) done why)
 finished words old new order fault (not_bound c chain stands unbound is untouched) done = cc
 finished words old new order fault (script_refused c chain stands why untouched) done = absurd (subst (λ f. ScriptFault (old.held c.script) (old.failed_reads c.script) (new.failed_reads c.script) f) done why)
 finished words old new order fault (capture_refused c chain stands why untouched) done = absurd (subst (λ f. CaptureFault (old.held c.capture) (old.failed_reads c.capture) (new.failed_reads c.capture) f) done why)

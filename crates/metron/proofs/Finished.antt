@@ -4,11 +4,11 @@ use Rattle.std.specs.Prelude.{IsSomeAnd}
 use Rattle.mt_io.specs.Files.{Rose, IsSame, IsSameBut, NeverFell}
 use Rattle.mt_io.specs.Laws.{rose_then, then_rose, same_twice}
 use Rattle.metron.specs.Command.{Words, command_of}
-use Rattle.metron.specs.Inputs.{Told, ChainFault, ScriptFault, CaptureFault}
+use Rattle.metron.specs.Inputs.{Told, IsChainFault, ScriptFault, CaptureFault}
 use Rattle.metron.specs.Serving.{HasServed, HasServedSome, ServeFault}
 use Rattle.metron.specs.Causes.{Held, State, output_device, IsUntouched, IsRun}
 use Rattle.metron.specs.Causes.IsRun.{no_command, chain_refused, not_bound, script_refused, capture_refused, broken_off, ended}
-use Rattle.metron.specs.Due.{due, command_due, IsInterruption, IsExact, NoneFailed, IsFinished, IsEarly}
+use Rattle.metron.specs.Due.{IsInterruption, IsExact, IsComplete, NoneFailed, IsFinished, IsEarly}
 use Rattle.metron.specs.Finish.{IsOutput, IsSender, FinishFault, IsServed}
 use Rattle.metron.specs.Finish.IsServed.{all_written, some_pending}
 use Rattle.metron.specs.declared.outcome.FileId.TheVariants as file
@@ -38,7 +38,7 @@ from_same words old begun new order fault same run = subst (λ (s : State). IsRu
 
 -- ---- the state after
 
-chain_later : (held : Told) (before after after' : ℕ) (fault : Fault) → after ≤ after' → ChainFault held before after fault → ChainFault held before after' fault
+chain_later : (held : Told) (before after after' : ℕ) (fault : Fault) → after ≤ after' → IsChainFault held before after fault → IsChainFault held before after' fault
 chain_later held before after after' (Read file.Chain) le h = rose_then before after after' h le
 chain_later held before after after' fault le h = h
 
@@ -128,10 +128,10 @@ finish_late words old new c fault why early = why
 pub exact : (words : List (List ℕ)) (old new : State) (order : List ℕ) (fault : Fault) → IsServed words old new order fault → IsExact (command_of words) old new fault
 exact words old new order fault (all_written run) = exactly.exact words old new order fault run
 exact words old new order fault (some_pending c told ran is run pending why) =
-    exactly.of_command words old new fault c is (exactly.interrupts (command_due (Some c) old.held) fault (IsInterruption old new fault c) (finish_interrupts words old new c fault why))
+    exactly.of_command words old new fault c is (inr (finish_interrupts words old new c fault why))
 
-pub complete : (words : List (List ℕ)) (old new : State) (order : List ℕ) (fault d : Fault) → IsServed words old new order fault → NoneFailed old new → due words old.held ≡ Some d → (fault ≡ d) ⊎ (fault ≡ Memory)
-complete words old new order fault d served none is = exactly.answered (command_of words) old new fault (due words old.held) d none is (exact words old new order fault served)
+pub complete : (words : List (List ℕ)) (old new : State) (order : List ℕ) (fault : Fault) → IsServed words old new order fault → NoneFailed old new → IsComplete (command_of words) old.held fault
+complete words old new order fault served none = exactly.answered (command_of words) old new fault none (exact words old new order fault served)
 
 pub finished : (words : List (List ℕ)) (old new : State) (order : List ℕ) (fault : Fault) → IsServed words old new order fault → fault ≡ Done → IsFinished words old new order
 finished words old new order fault (all_written run) done = exactly.finished words old new order fault run done

@@ -3,3 +3,4 @@ mod Texts
 mod Runs
 mod Exact
 mod Finished
+mod Simple

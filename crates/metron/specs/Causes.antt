@@ -9,7 +9,7 @@ use Rattle.mt_elements.specs.ChainState.{ChainState}
 use Rattle.mt_pcap.specs.declared.fault.PcapFault.{PcapFault}
 use Rattle.mt_pcap.specs.Capture as captures
 use Rattle.metron.specs.Command.{Words, command_of}
-use Rattle.metron.specs.Inputs.{Told, IsChainRead, IsScriptRead, IsCaptureRead, ChainFault, ScriptFault, CaptureFault}
+use Rattle.metron.specs.Inputs.{Told, IsChainRead, IsScriptRead, IsCaptureRead, IsChainFault, ScriptFault, CaptureFault}
 use Rattle.metron.specs.Serving.{HasServed, HasServedSome, ServeFault}
 use Rattle.metron.specs.declared.outcome.Fault.{Fault}
 use Rattle.metron.specs.declared.outcome.Fault.TheVariants.{Done, UsageWord, Capture}
@@ -88,7 +88,7 @@ pub data IsRun (words : List (List ℕ)) (old new : State) (order : List ℕ) (f
   no_command : command_of words ≡ None → fault ≡ UsageWord 0 → IsUntouched old new order → IsRun words old new order fault
   chain_refused :
       (command : Words) → command_of words ≡ Some command
-      → ChainFault (old.held command.chain) (old.failed_reads command.chain) (new.failed_reads command.chain) fault
+      → IsChainFault (old.held command.chain) (old.failed_reads command.chain) (new.failed_reads command.chain) fault
       → IsUntouched old new order → IsRun words old new order fault
   not_bound :
       (command : Words) (chain : ChainState) → IsAtChain words old.held command chain → binds chain command ≡ false → fault ≡ UsageWord 0

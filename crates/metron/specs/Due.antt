@@ -1,15 +1,16 @@
--- The answer that a run owes, as a function of its words and of what the files hold; none where that is not told.
-use Rattle.std.specs.Prelude.{◌≡◌, ◌⊎◌, ℕ, nat_lt, if◌then◌else◌, true, List, [], ◌∷◌, length, Option, Some, None, option_map, option_and_then, IfSome, IsSomeAnd, ⊤}
+-- The answer that a run owes, by its words and by what the files hold; none where that is not told.
+use Rattle.std.specs.Prelude.{◌≡◌, ◌⊎◌, ℕ, nat_lt, if◌then◌else◌, true, List, [], ◌∷◌, length, Option, Some, None, Result, Ok, Err, option_map, option_and_then, IfSome, ⊤}
 use Rattle.mt_io.specs.Files.{Rose, IsSameBut}
 use Rattle.mt_elements.specs.ChainState.{ChainState}
 use Rattle.mt_pcap.specs.Capture as captures
-use Rattle.metron.specs.Command.{Words, command_of}
-use Rattle.metron.specs.Inputs.{Told, chain_in, capture_limit, is_no_header}
+use Rattle.metron.specs.Command.{Words}
+use Rattle.metron.specs.Inputs.{Told, ReadsAs, capture_limit, is_no_header}
 use Rattle.metron.specs.Serving.{HasServed}
 use Rattle.metron.specs.Causes.{Held, State, binds, output_device, IsAtRun, end_of}
 use Rattle.metron.specs.declared.outcome.FileId.TheVariants as file
 use Rattle.metron.specs.declared.outcome.Fault.{Fault}
-use Rattle.metron.specs.declared.outcome.Fault.TheVariants.{UsageWord, Unbuilt, TooLong, Capture, Read, Write, Memory}
+use Rattle.metron.specs.declared.outcome.Fault.TheVariants.{UsageWord, Unbuilt, TooLong, Click, Capture, Read, Write, Memory}
+use Rattle.metron.specs.declared.outcome.Fault.TheVariants as fault
 
 -- ---- the answer
 
@@ -23,16 +24,15 @@ script_due (byte ∷ more) capture = Some (Unbuilt file.Script)
 abbrev pub bound_due : ChainState → Words → Held → Option Fault
 bound_due chain words held = if binds chain words then option_and_then (λ script. script_due script (held words.capture)) (held words.script) else Some (UsageWord 0)
 
-abbrev pub chain_due : Option ChainState → Words → Held → Option Fault
-chain_due None words held = Some (Unbuilt file.Chain)
-chain_due (Some chain) words held = bound_due chain words held
+-- what a text that was read so owes
+abbrev pub reading_due : Result ChainState Fault → Words → Held → Option Fault
+reading_due (Ok chain) words held = bound_due chain words held
+reading_due (Err fault) words held = Some fault
 
-abbrev pub command_due : Option Words → Held → Option Fault
-command_due None held = Some (UsageWord 0)
-command_due (Some words) held = option_and_then (λ text. chain_due (chain_in text) words held) (held words.chain)
-
-abbrev pub due : List (List ℕ) → Held → Option Fault
-due words held = command_due (command_of words) held
+-- A fault that a command owes, by what its files hold; nothing is said where that is not told.
+abbrev pub IsOwed : Words → Held → Fault → Type 0
+IsOwed words held fault =
+    IfSome (held words.chain) (λ text. (reading : Result ChainState Fault) × ReadsAs text reading × IfSome (reading_due reading words held) (λ answer. fault ≡ answer))
 
 -- ---- what may come in its place
 
@@ -45,9 +45,15 @@ IsInterruption old new (Write (file.Output device)) c = Rose (old.failed_writes 
 IsInterruption old new Memory c = ⊤
 IsInterruption old new fault c = ⊥
 
--- the answer is the one that is due, unless a file of the command failed or there was no memory
+-- The answer is the one that is due, unless a file of the command failed or there was no memory.
 abbrev pub IsExact : Option Words → State → State → Fault → Type 0
-IsExact command old new fault = IfSome (command_due command old.held) (λ answer. (fault ≡ answer) ⊎ IsSomeAnd command (IsInterruption old new fault))
+IsExact None old new fault = fault ≡ UsageWord 0
+IsExact (Some words) old new fault = IsOwed words old.held fault ⊎ IsInterruption old new fault words
+
+-- Where no file failed, the answer is the one that is due, or there was no memory.
+abbrev pub IsComplete : Option Words → Held → Fault → Type 0
+IsComplete None held fault = fault ≡ UsageWord 0
+IsComplete (Some words) held fault = IsOwed words held fault ⊎ (fault ≡ Memory)
 
 -- no count of a file rose
 pub record NoneFailed (old new : State) : Type 0 where
@@ -71,6 +77,8 @@ abbrev pub IsEarly : Fault → Type 0
 IsEarly (UsageWord word) = ⊤
 IsEarly (Unbuilt file) = ⊤
 IsEarly (TooLong file) = ⊤
+IsEarly (Click told) = ⊤
+IsEarly (fault.Chain told) = ⊤
 IsEarly (Read file) = ⊤
 IsEarly (Capture device why) = is_no_header (Some why) ≡ true
 IsEarly fault = ⊥

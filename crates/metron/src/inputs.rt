@@ -1,12 +1,18 @@
 //! What the files of a command hold.
-ghost use Rattle.std.specs.Prelude.{◌≡◌, ◌<◌, ◌≤◌, ◌*◌, ◌/◌, ◌^◌, length, All, IfOk, IfErr, OnOk, Some};
+ghost use Rattle.std.specs.Prelude.{◌≡◌, ◌<◌, ◌≤◌, ◌⊎◌, ◌*◌, ◌/◌, ◌^◌, length, All, IfOk, IfErr, OnOk, Some, true};
+ghost use Rattle.std.specs.List.{list_any, list_all};
+ghost use Rattle.mt_elements.specs.declared.fault.ChainWhy.TheVariants.{NoMemory};
+ghost use Rattle.metron.specs.declared.outcome.Fault.TheVariants.{Memory};
+ghost use Rattle.metron.specs.declared.outcome.Fault.TheVariants as RunFault;
 ghost use Rattle.mt_io.specs.Files.{IsSame, IsSameBut, NeverFell};
 ghost use Rattle.mt_pcap.specs.Capture.{capture_seen};
-ghost use Rattle.metron.specs.Inputs.{IsChainRead, ChainFault, IsScriptRead, ScriptFault, IsCaptureRead, CaptureFault, is_no_header};
+ghost use Rattle.metron.specs.Inputs.{is_sender, is_plain, is_simple, IsChain, IsTextFault, IsChainRead, IsChainFault, IsScriptRead, ScriptFault, IsCaptureRead, CaptureFault, is_no_header};
 
 use crate::{Fault, FileId};
-use mt_elements::{Chain, small};
+use mt_click::{ClickWhy, parse};
+use mt_elements::{Chain, ChainFault, ChainWhy, check};
 use mt_io::{Files, TextFault, read_up_to};
+use mt_kinds::Kind;
 use mt_pcap::{PcapFault, WholeCapture, whole};
 use std::alloc::Global;
 
@@ -17,26 +23,110 @@ const CHAIN_LIMIT: usize = 1_048_576;
 const CAPTURE_LIMIT: usize = 67_108_864;
 
 /// The chain whose text a file holds.
-#[tactic(auto, unfolding(crate::specs::Inputs::chain_in))]
 pub(crate) fn read_chain<F: Files>(alloc: Global, files: &mut F, name: &str) -> Result<Chain, Fault>
     ensures ok { IfOk result (IsChainRead (F.held files.old name.now)) }
-    ensures err { IfErr result (ChainFault (F.held files.old name.now) (F.read_faults files.old name.now) (F.read_faults files.new name.now)) }
+    ensures err { IfErr result (IsChainFault (F.held files.old name.now) (F.read_faults files.old name.now) (F.read_faults files.new name.now)) }
 
     ensures other_files { IsSameBut name.now (F.held files.old) (F.held files.new) }
     ensures written { IsSame (F.written files.old) (F.written files.new) }
     ensures read_faults { NeverFell (F.read_faults files.old) (F.read_faults files.new) }
     ensures write_faults { NeverFell (F.write_faults files.old) (F.write_faults files.new) }
 {
-    match read_up_to(alloc, files, name, CHAIN_LIMIT) {
-        Ok(text) => match small(alloc, &text) {
-            Ok(Some(chain)) => Ok(chain),
-            Ok(None) => Err(Fault::Unbuilt(FileId::Chain)),
-            Err(_) => Err(Fault::Memory),
-        },
-        Err(TextFault::TooLong) => Err(Fault::Unbuilt(FileId::Chain)),
-        Err(TextFault::Failed) => Err(Fault::Read(FileId::Chain)),
-        Err(TextFault::NoMemory) => Err(Fault::Memory),
+    let text = match read_up_to(alloc, files, name, CHAIN_LIMIT) {
+        Ok(text) => text,
+        Err(TextFault::TooLong) => return Err(Fault::TooLong(FileId::Chain)),
+        Err(TextFault::Failed) => return Err(Fault::Read(FileId::Chain)),
+        Err(TextFault::NoMemory) => return Err(Fault::Memory),
+    };
+    chain_of(alloc, &text)
+}
+
+/// The chain of a text, where it runs today.
+fn chain_of(alloc: Global, text: &[u8]) -> Result<Chain, Fault>
+    requires { length text.now ≤ 1048576 }
+    ensures ok { IfOk result (λ c. IsChain text.now c × (is_simple c ≡ true)) }
+    ensures err { IfErr result (λ f. (f ≡ Memory) ⊎ IsTextFault text.now f) }
+{
+    let graph = match parse(alloc, text) {
+        Ok(graph) => graph,
+        Err(fault) if matches!(fault.why, ClickWhy::NoMemory) => return Err(Fault::Memory),
+        Err(fault) => return Err(Fault::Click(fault)),
+    };
+    let chain = match check(alloc, graph) {
+        Ok(chain) => chain,
+        Err(fault) => return Err(refusal(fault)),
+    };
+    if is_simple(&chain) {
+        Ok(chain)
+    } else {
+        Err(Fault::Unbuilt(FileId::Chain))
     }
+}
+
+/// The fault of a graph that is refused.
+fn refusal(fault: ChainFault) -> Fault
+    ensures memory { fault.why ≡ NoMemory → result ≡ Memory }
+    ensures refused { (result ≡ Memory) ⊎ (result ≡ RunFault.Chain fault) }
+{
+    match fault.why {
+        ChainWhy::NoMemory => Fault::Memory,
+        _ => Fault::Chain(fault),
+    }
+}
+
+/// Whether a chain runs today: frames arrive on one device and are sent on one, and no element is a rewriter.
+fn is_simple(chain: &Chain) -> bool
+    ensures { result ≡ is_simple chain.now }
+{
+    chain.entries() == 1
+        && has_sender(chain.kinds())
+        && are_plain(chain.devices().len() as u32, chain.kinds())
+}
+
+/// Whether an element sends on a device.
+fn is_sender(kind: &Kind) -> bool
+    ensures { result ≡ is_sender kind.now }
+{
+    matches!(kind, Kind::ToDevice(_))
+}
+
+/// Whether one of the elements sends on a device.
+fn has_sender(kinds: &[Kind]) -> bool
+    ensures { result ≡ list_any is_sender kinds.now }
+{
+    let mut rest = kinds;
+    while let [kind, after @ ..] = rest {
+        if is_sender(kind) {
+            return true;
+        }
+        rest = after;
+    }
+    false
+}
+
+/// Whether an element is no rewriter, and sends on no other device than this.
+fn is_plain(last: u32, kind: &Kind) -> bool
+    ensures { result ≡ is_plain last kind.now }
+{
+    match kind {
+        Kind::ToDevice(device) => *device == last,
+        Kind::IPRewriter(_) => false,
+        _ => true,
+    }
+}
+
+/// Whether no element is a rewriter, or sends on another device than this.
+fn are_plain(last: u32, kinds: &[Kind]) -> bool
+    ensures { result ≡ list_all (is_plain last) kinds.now }
+{
+    let mut rest = kinds;
+    while let [kind, after @ ..] = rest {
+        if !is_plain(last, kind) {
+            return false;
+        }
+        rest = after;
+    }
+    true
 }
 
 /// Reads a script, which has no byte yet.

@@ -2,6 +2,8 @@
 ghost use Rattle.std.specs.Prelude.{◌≡◌, []};
 ghost use Rattle.metron.specs.Outcome.{status_of};
 
+use mt_click::ClickFault;
+use mt_elements::ChainFault;
 use mt_pcap::PcapFault;
 
 /// A file that the words name. Devices are numbered from 1.
@@ -26,6 +28,10 @@ pub enum Fault {
     Unbuilt(FileId),
     /// A byte follows the file's limit.
     TooLong(FileId),
+    /// The chain's text is no configuration.
+    Click(ClickFault),
+    /// The configuration is no chain that is accepted.
+    Chain(ChainFault),
     /// The capture of a device is broken off.
     Capture(u32, PcapFault),
     /// A read of the file failed.
@@ -44,6 +50,7 @@ impl Fault {
         match self {
             Fault::Done => 0,
             Fault::UsageWord(_) => 1,
+            Fault::Click(_) | Fault::Chain(_) => 2,
             Fault::Unbuilt(FileId::Chain) | Fault::TooLong(FileId::Chain) => 2,
             Fault::Unbuilt(FileId::Script) | Fault::TooLong(FileId::Script) => 3,
             Fault::Read(_) => 4,

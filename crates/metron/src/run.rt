@@ -8,7 +8,7 @@ ghost use Rattle.metron.specs.Order.{order_of};
 ghost use Rattle.metron.specs.Command.{view, command_of};
 ghost use Rattle.metron.specs.Causes.{is_device, binds, output_device, state_of, IsUntouched, IsRun};
 ghost use Rattle.metron.specs.Finish.{IsSender, IsServed};
-ghost use Rattle.metron.specs.Due.{due, IsExact, NoneFailed, IsFinished, IsEarly};
+ghost use Rattle.metron.specs.Due.{IsExact, IsComplete, NoneFailed, IsFinished, IsEarly};
 ghost use Rattle.metron.specs.declared.outcome.Fault.{Fault};
 ghost use Rattle.metron.specs.declared.outcome.FileId.{FileId};
 
@@ -52,8 +52,7 @@ pub fn metron<F: Files>(alloc: Global, words: &[String], files: &mut F) -> Outco
     ensures complete { NoneFailed
         (state_of F.held F.written F.read_faults F.write_faults files.old)
         (state_of F.held F.written F.read_faults F.write_faults files.new)
-        → (answer : Fault) → due (map string_bytes words.now) (F.held files.old) ≡ Some answer
-        → (result.fault ≡ answer) ⊎ (result.fault ≡ Fault.Memory) }
+        → IsComplete (command_of (map string_bytes words.now)) (F.held files.old) result.fault }
 {
     let mut order = Vec::new(alloc);
     let ended = run(alloc, words, files, &mut order);
@@ -85,8 +84,7 @@ pub fn serve_command<F: Files + Drop>(alloc: Global, words: &[String], files: F)
     ensures complete { NoneFailed
         (state_of F.held F.written F.read_faults F.write_faults files)
         (state_of F.held F.written F.read_faults F.write_faults result.1)
-        → (answer : Fault) → due (map string_bytes words.now) (F.held files) ≡ Some answer
-        → (result.0.fault ≡ answer) ⊎ (result.0.fault ≡ Fault.Memory) }
+        → IsComplete (command_of (map string_bytes words.now)) (F.held files) result.0.fault }
 {
     let mut order = Vec::new(alloc);
     let (fault, files) = run_buffered(alloc, words, files, &mut order);

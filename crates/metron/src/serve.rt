@@ -1,15 +1,17 @@
 //! Serving the frames of a capture, one after the other, and writing those that are sent.
-ghost use Rattle.std.specs.Prelude.{◌≡◌, ◌<◌, ◌≤◌, ◌/◌, ◌^◌, [], length, All, OnOk, OnErr, IfErr, IfSome, None};
+ghost use Rattle.std.specs.Prelude.{◌≡◌, ◌<◌, ◌≤◌, ◌/◌, ◌^◌, [], length, All, OnOk, OnErr, IfErr, IfSome, None, true};
 ghost use Rattle.mt_io.specs.Files.{IsSame, IsSameBut, NeverFell};
 ghost use Rattle.mt_packet.specs.declared.layer.Layer.TheVariants as layer;
 ghost use Rattle.mt_pcap.specs.Text.{record_text};
-ghost use Rattle.mt_chain.specs.Run.{IsThere, entry_of};
+ghost use Rattle.mt_elements.specs.ChainState.{entry_of};
+ghost use Rattle.mt_chain.specs.Run.{IsStateless, IsThere};
 ghost use Rattle.mt_chain.specs.declared.run.Fate.TheVariants as fates;
 ghost use Rattle.metron.specs.Fates.{records_sent};
+ghost use Rattle.metron.specs.Inputs.{is_simple};
 ghost use Rattle.metron.specs.Serving.{ServeFault, HasServed, HasServedSome, HasServedOne, HasBrokenOff};
 
 use crate::{Fault, FileId};
-use mt_chain::laws::{device_1_has_an_entry, one_packet_behind_others};
+use mt_chain::laws::{devices_have_entries, one_packet_behind_others};
 use mt_chain::{Fate, Tables, run_one};
 use mt_elements::Chain;
 use mt_io::{Files, write_all};
@@ -32,6 +34,7 @@ pub(crate) fn serve<F: Files>(
     requires lengths { All (λ r. length r.1 ≤ 262144) records.items }
     requires few { length records.items < 2 ^ 32 }
     requires first { order.old.items ≡ [] }
+    requires simple { is_simple chain.now ≡ true }
     ensures ok { OnOk result (HasServed device chain.now records.items
         (F.written files.old output.now) (F.written files.new output.now) order.new.items) }
     ensures err { OnErr result (HasServedSome device chain.now records.items
@@ -48,7 +51,7 @@ pub(crate) fn serve<F: Files>(
         Err(_) => return Err(Fault::Write(FileId::Output(device))),
     }
     chain.is_accepted();
-    device_1_has_an_entry();
+    devices_have_entries();
     one_packet_behind_others();
     let mut tables = match Tables::new(alloc, chain) {
         Ok(tables) => tables,
@@ -97,6 +100,7 @@ fn serve_one<F: Files>(
 ) -> Result<(), Fault>
     requires arrived { packet.layer ≡ layer.Frame }
     requires known { IsThere (entry_of chain.now packet.device) }
+    requires stateless { IsStateless chain.now }
     requires seconds_fit { packet.stamp / 1000000000 < 2 ^ 32 }
     requires length { length packet.bytes ≤ 262144 }
     ensures ok { OnOk result (HasServedOne device chain.now tables.old tables.new packet (F.written files.old output.now) (F.written files.new output.now)) }

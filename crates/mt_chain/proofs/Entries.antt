@@ -1,14 +1,13 @@
--- The element of a device.
-use Rattle.std.proofs.Common.{◌≡◌, ◌∙◌, ap, refl, ℕ, zero, suc, ◌+◌, ◌<◌, not, cond, Bool, true, false, List, [], ◌∷◌, length, position, arith}
-use Rattle.std.specs.Prelude.{Some, slice_get, unwrap_or}
+-- The elements of the devices on which frames arrive.
+use Rattle.std.proofs.Common.{◌≡◌, ◌∙◌, ap, refl, ℕ, zero, suc, ◌+◌, ◌<◌, ◌≤◌, not, cond, Bool, true, false, List, [], ◌∷◌, length, position, arith}
+use Rattle.std.specs.Prelude.{Some, slice_get, unwrap_or, ◌==◌}
 use Rattle.std.specs.List.{position_or_len}
 use Rattle.std.proofs.lemmas.Bool.Decides.{nat_tests}
 use Rattle.std.proofs.lemmas.Option.{none-some}
-use Rattle.mt_packet.specs.declared.layer.Layer.{Layer}
-use Rattle.mt_elements.specs.declared.kind.Kind.TheVariants.{FromDevice}
-use Rattle.mt_elements.specs.ChainState.{ChainState}
-use Rattle.mt_elements.specs.Accepted.{IsAccepted}
-use Rattle.mt_chain.specs.Run.{is_entry, entry_of, IsThere}
+use Rattle.mt_kinds.specs.declared.kind.Kind.TheVariants.{FromDevice}
+use Rattle.mt_elements.specs.ChainState.{ChainState, is_entry, entry_of}
+use Rattle.mt_elements.specs.Numbered.{IsNumbered}
+use Rattle.mt_chain.specs.Run.{IsThere}
 
 -- where an element passes, the first that does is within the list
 passed_within : {A : Type 0} (p : A → Bool) (xs : List A) (i : ℕ) (x : A) → slice_get xs i ≡ Some x → p x ≡ true → position_or_len p xs < length xs
@@ -28,6 +27,11 @@ there_is p xs i x is passes =
     let within = passed_within p xs i x is passes in
     (position_or_len p xs, grind (arith, nat_tests))
 
--- an accepted chain has an element for device 1
-pub has_entry : (chain : ChainState) (reached : ℕ → Layer → Bool) → IsAccepted chain reached → IsThere (entry_of chain 1)
-has_entry chain reached accepted = there_is (is_entry 1) chain.kinds accepted.entry.0 (FromDevice 1) accepted.entry.1 refl
+same : (n : ℕ) → (n == n) ≡ true
+same n = grind (arith, nat_tests)
+
+-- each device on which frames arrive has an element
+pub has_entry : (chain : ChainState) (device : ℕ) → IsNumbered chain → 0 < device → device ≤ chain.entries → IsThere (entry_of chain device)
+has_entry chain device numbered some among =
+    let entered = numbered.entered device some among in
+    there_is (is_entry device) chain.kinds entered.0 (FromDevice device) entered.1 (same device)

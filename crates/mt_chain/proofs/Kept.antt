@@ -11,12 +11,12 @@ use Rattle.mt_packet.specs.declared.field.Field.TheVariants as of
 use Rattle.mt_packet.specs.declared.flow.Flow.{Flow}
 use Rattle.mt_packet.specs.declared.layer.Layer.{Layer}
 use Rattle.mt_packet.specs.declared.layer.Layer.TheVariants.{Frame, Bare, Ip, Framed}
-use Rattle.mt_elements.specs.declared.kind.Kind.{Kind}
-use Rattle.mt_elements.specs.declared.kind.Kind.TheVariants.{FromDevice, ToDevice, Classifier, Discard, Null, Counter, Queue, Paint, PaintSwitch, EtherMirror, Strip, CheckIPHeader, EtherEncap, DecIPTTL, SetIPDSCP, StoreIPAddress, GetIPAddress, IPMirror, IPFilter, IPClassifier, Route}
-use Rattle.mt_elements.specs.Layers.{is_bare, is_ip, takes}
-use Rattle.mt_elements.specs.declared.hop.Hop.{Hop}
-use Rattle.mt_elements.specs.declared.rule.FilterAction.{FilterAction}
-use Rattle.mt_elements.specs.declared.rule.FilterAction.TheVariants.{Deny, Out}
+use Rattle.mt_kinds.specs.declared.kind.Kind.{Kind}
+use Rattle.mt_kinds.specs.declared.kind.Kind.TheVariants.{FromDevice, ToDevice, Classifier, Discard, Null, Counter, Queue, Paint, PaintSwitch, EtherMirror, Strip, CheckIPHeader, EtherEncap, DecIPTTL, SetIPDSCP, StoreIPAddress, GetIPAddress, IPMirror, IPFilter, IPClassifier, Route, IPRewriter, RoundRobinIPMapper}
+use Rattle.mt_kinds.specs.Layers.{is_bare, is_ip, takes}
+use Rattle.mt_kinds.specs.declared.hop.Hop.{Hop}
+use Rattle.mt_kinds.specs.declared.rule.FilterAction.{FilterAction}
+use Rattle.mt_kinds.specs.declared.rule.FilterAction.TheVariants.{Deny, Out}
 use Rattle.mt_chain.specs.declared.step.Exit.{Exit}
 use Rattle.mt_chain.specs.Classifier.{is_whole}
 use Rattle.mt_chain.specs.Step.{class_step, stateless_step, refused, by_pattern, has_run_out, address_of, addresses_swapped, ports_swapped, by_action, by_ip_pattern, towards, by_hop}
@@ -26,7 +26,8 @@ use Rattle.mt_chain.specs.declared.run.Fate.TheVariants.{Sent, Dropped}
 use Rattle.mt_chain.specs.declared.step.Ending.TheVariants as ending
 use Rattle.mt_chain.specs.declared.walk.Next.{Next}
 use Rattle.mt_chain.specs.declared.walk.Next.TheVariants.{Goes, Ends}
-use Rattle.mt_chain.specs.Run.{TablesState, State, Run, with_packet, element_step, next_after, follow, goes_on, run_from, run_packet, entry_of}
+use Rattle.mt_chain.specs.Run.{TablesState, State, Run, with_packet, element_step, next_after, follow, goes_on, run_from, run_packet}
+use Rattle.mt_elements.specs.ChainState.{entry_of}
 use Rattle.mt_chain.specs.Kept.{IsKept, ComesFrom}
 use Rattle.mt_chain.proofs.Sizes.{length-with_field, length-with_datagram, checked_no_longer}
 
@@ -186,6 +187,8 @@ class_kept IPMirror p h = twice p _ _ (two_fields_kept p of.Src of.Dst _ _) (por
 class_kept (IPFilter rules) p h = action_kept p _
 class_kept (IPClassifier patterns) p h = ip_pattern_kept p _
 class_kept (Route hops) p h = hop_kept p _
+class_kept (IPRewriter specs) p h = tt
+class_kept (RoundRobinIPMapper templates) p h = tt
 
 pub step_kept : (kind : Kind) (p : PacketState) → Keeps p (stateless_step kind p)
 unfolding stateless_step
@@ -233,9 +236,9 @@ pub run_kept : (chain : ChainState) (tables : TablesState) (packet : PacketState
 unfolding run_packet
 run_kept chain tables packet picks = entered (entry_of chain packet.device)
   where
-    entered : (found : Option ℕ) → RunsFrom packet (option_and_then (λ entry. run_from (length chain.kinds) chain (entry, 0) (record { packet = packet; tables = tables; picks = picks })) found)
+    entered : (found : Option ℕ) → RunsFrom packet (option_and_then (λ entry. run_from (suc (length chain.wires)) chain (entry, 0) (record { packet = packet; tables = tables; picks = picks })) found)
     entered None = tt
-    entered (Some entry) = along (length chain.kinds) chain (entry, 0) _
+    entered (Some entry) = along (suc (length chain.wires)) chain (entry, 0) _
 
 pub sent_from : (chain : ChainState) (tables : TablesState) (packet : PacketState) (picks : List ℕ) (run : Run) → run_packet chain tables packet picks ≡ Some run → ComesFrom packet run.fate
 sent_from chain tables packet picks run is = subst (λ found. RunsFrom packet found) is (run_kept chain tables packet picks)
@@ -272,9 +275,9 @@ picks_of_run : (chain : ChainState) (tables : TablesState) (packet : PacketState
 unfolding run_packet
 picks_of_run chain tables packet picks = entered (entry_of chain packet.device)
   where
-    entered : (found : Option ℕ) → LeavesPicks picks (option_and_then (λ entry. run_from (length chain.kinds) chain (entry, 0) (record { packet = packet; tables = tables; picks = picks })) found)
+    entered : (found : Option ℕ) → LeavesPicks picks (option_and_then (λ entry. run_from (suc (length chain.wires)) chain (entry, 0) (record { packet = packet; tables = tables; picks = picks })) found)
     entered None = tt
-    entered (Some entry) = picks_along (length chain.kinds) chain picks (entry, 0) _ refl
+    entered (Some entry) = picks_along (suc (length chain.wires)) chain picks (entry, 0) _ refl
 
 pub picks_left : (chain : ChainState) (tables : TablesState) (packet : PacketState) (picks : List ℕ) (run : Run) → run_packet chain tables packet picks ≡ Some run → length run.picks ≤ length picks
 picks_left chain tables packet picks run is =

@@ -1,5 +1,6 @@
 pub mod Entries
 mod HasRun
+mod StepsThere
 mod Kept
 mod Longest
 mod Outputs

@@ -4,7 +4,7 @@ use Rattle.std.specs.Prelude.{Option, Some, None, if◌then◌else◌, fold, sli
 use Rattle.std.proofs.lemmas.Bool.{false≢true, ltb-true, ltb-false}
 use Rattle.std.proofs.lemmas.List.{append-nil}
 use Rattle.std.proofs.lemmas.Option.{none-some, same_Some, slice_get_within}
-use Rattle.mt_elements.specs.declared.hop.Hop.{Hop}
+use Rattle.mt_kinds.specs.declared.hop.Hop.{Hop}
 use Rattle.mt_chain.specs.Route.{is_in, is_longer, better, route_of, IsLongest, IsRoute}
 
 -- ---- a list with one more behind it

@@ -3,15 +3,15 @@ use Rattle.std.proofs.Common.{◌≡◌, ap, ℕ, zero, suc, ◌+◌, ◌<◌, B
 use Rattle.std.specs.Prelude.{Some, if◌then◌else◌, max, slice_get}
 use Rattle.std.proofs.Math.Nat.{le-max_left, le-max_right}
 use Rattle.std.proofs.lemmas.Option.{none-some, same_Some}
-use Rattle.mt_elements.specs.declared.hop.Hop.{Hop}
-use Rattle.mt_elements.specs.declared.rule.FilterAction.TheVariants.{Out}
-use Rattle.mt_elements.specs.declared.rule.Rule.{Rule}
-use Rattle.mt_elements.specs.Layers.{action_outs, filter_outs, route_outs}
+use Rattle.mt_kinds.specs.declared.hop.Hop.{Hop}
+use Rattle.mt_kinds.specs.declared.rule.FilterAction.TheVariants.{Out}
+use Rattle.mt_kinds.specs.declared.rule.Rule.{Rule}
+use Rattle.mt_kinds.specs.Outputs.{greatest, action_outs, filter_outs, route_outs}
 use Rattle.mt_chain.specs.Filter.{holds_on, action_on}
 
 -- a filter sends by an output that a rule names
 pub action_within : (header : List ℕ) (rules : List Rule) (n : ℕ) → action_on header rules ≡ Out n → n < filter_outs rules
-unfolding action_on filter_outs
+unfolding action_on greatest
 action_within header [] n is = absurd cc
 action_within header (rule ∷ rules) n is = by_test (holds_on header rule.pattern) (action_within header rules n) is
   where
@@ -27,7 +27,7 @@ action_within header (rule ∷ rules) n is = by_test (holds_on header rule.patte
 
 -- each entry of a route table names one of its outputs
 pub hop_within : (hops : List Hop) (i : ℕ) (hop : Hop) → slice_get hops i ≡ Some hop → hop.out < route_outs hops
-unfolding route_outs
+unfolding greatest
 hop_within [] i hop is = absurd (none-some hop is)
 hop_within (first ∷ hops) zero hop is =
     let here : first.out ≡ hop.out = ap (λ (h : Hop). h.out) (same_Some first hop is) in

@@ -5,7 +5,7 @@ use Rattle.mt_packet.specs.Ipv4.{IsValidIpv4}
 use Rattle.mt_packet.specs.Packet.{PacketState, IsChecked, datagram_of, stripped, layer_below}
 use Rattle.mt_packet.specs.declared.layer.Layer.{Layer}
 use Rattle.mt_packet.specs.declared.layer.Layer.TheVariants.{Frame, Bare, Ip, Framed}
-use Rattle.mt_elements.specs.Layers.{is_ip}
+use Rattle.mt_kinds.specs.Layers.{is_ip}
 use Rattle.mt_chain.specs.Step.{IsSound}
 
 abbrev is_framed : Layer → Bool

@@ -10,8 +10,8 @@ use Rattle.mt_packet.specs.Ipv4.{IsValidIpv4, is_valid_ipv4, is_readable, has_po
 use Rattle.mt_packet.specs.Packet.{PacketState, HasEthernet, datagram_of, checked}
 use Rattle.mt_packet.specs.declared.layer.Layer.{Layer}
 use Rattle.mt_packet.specs.declared.layer.Layer.TheVariants.{Frame, Bare, Ip, Framed}
-use Rattle.mt_elements.specs.declared.kind.Kind.TheVariants.{CheckIPHeader}
-use Rattle.mt_elements.specs.Layers.{is_bare}
+use Rattle.mt_kinds.specs.declared.kind.Kind.TheVariants.{CheckIPHeader}
+use Rattle.mt_kinds.specs.Layers.{is_bare}
 use Rattle.mt_chain.specs.declared.step.Exit.TheVariants.{Leaves}
 use Rattle.mt_chain.specs.Step.{class_step, leaves, refused, IsSound}
 use Rattle.mt_chain.specs.Classifier.{is_whole}

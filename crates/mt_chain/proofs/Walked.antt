@@ -2,7 +2,7 @@
 use Rattle.std.proofs.Common.{◌≡◌, ℕ, suc, ◌+◌, ◌-◌, ◌<◌, List, sym, ◌∙◌, ap}
 use Rattle.std.specs.Prelude.{Option, Some, None, slice_get, option_map, option_and_then}
 use Rattle.mt_packet.specs.Packet.{PacketState}
-use Rattle.mt_elements.specs.declared.kind.Kind.{Kind}
+use Rattle.mt_kinds.specs.declared.kind.Kind.{Kind}
 use Rattle.mt_elements.specs.ChainState.{ChainState}
 use Rattle.mt_chain.specs.declared.step.Exit.{Exit}
 use Rattle.mt_chain.specs.declared.step.Ending.{Ending}

@@ -6,8 +6,8 @@ use Rattle.mt_packet.specs.Header.{field_of}
 use Rattle.mt_packet.specs.Packet.{PacketState, has_ethernet, packet_header}
 use Rattle.mt_packet.specs.declared.field.Field.{Field}
 use Rattle.mt_packet.specs.declared.field.Field.TheVariants as of
-use Rattle.mt_elements.specs.declared.kind.Clause.{Clause}
-use Rattle.mt_elements.specs.declared.kind.Clause.TheVariants.{EthType, EthDst, EthSrc, ArpOp}
+use Rattle.mt_kinds.specs.declared.kind.Clause.{Clause}
+use Rattle.mt_kinds.specs.declared.kind.Clause.TheVariants.{EthType, EthDst, EthSrc, ArpOp}
 
 -- a field, read at the packet's present bytes
 abbrev pub value_of : PacketState → Field → ℕ

@@ -4,9 +4,9 @@ use Rattle.std.specs.Prelude.{ℕ, Bool, if◌then◌else◌, List, [], ◌∷�
 use Rattle.mt_packet.specs.Header.{field_of}
 use Rattle.mt_pattern.specs.Meaning.{meaning_of}
 use Rattle.mt_pattern.specs.declared.pattern.Pattern.{Pattern}
-use Rattle.mt_elements.specs.declared.rule.FilterAction.{FilterAction}
-use Rattle.mt_elements.specs.declared.rule.FilterAction.TheVariants.{Deny}
-use Rattle.mt_elements.specs.declared.rule.Rule.{Rule}
+use Rattle.mt_kinds.specs.declared.rule.FilterAction.{FilterAction}
+use Rattle.mt_kinds.specs.declared.rule.FilterAction.TheVariants.{Deny}
+use Rattle.mt_kinds.specs.declared.rule.Rule.{Rule}
 
 -- the pattern holds for the header
 abbrev pub holds_on : List ℕ → Pattern → Bool

@@ -3,7 +3,7 @@
 use Rattle.std.specs.Prelude.{◌≡◌, ℕ, ◌<◌, ◌≤◌, Bool, true, false, ◌&&◌, nat_lt, if◌then◌else◌, List, fold, slice_get, Option, Some, None}
 use Rattle.mt_pattern.specs.Meaning.{contains_number}
 use Rattle.mt_pattern.specs.Span.{prefix_span}
-use Rattle.mt_elements.specs.declared.hop.Hop.{Hop}
+use Rattle.mt_kinds.specs.declared.hop.Hop.{Hop}
 
 -- the address is in the prefix of an entry: both agree in its high bits
 unfoldable pub is_in : ℕ → Hop → Bool

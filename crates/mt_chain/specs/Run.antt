@@ -3,10 +3,9 @@ use Rattle.std.specs.Prelude.{◌≡◌, ℕ, zero, suc, ◌==◌, Bool, false, 
 use Rattle.mt_packet.specs.Packet.{PacketState}
 use Rattle.mt_packet.specs.declared.cause.Cause.{Cause}
 use Rattle.mt_packet.specs.declared.frame.Stamped.{Stamped}
-use Rattle.mt_elements.specs.declared.kind.Kind.{Kind}
-use Rattle.mt_elements.specs.declared.kind.Kind.TheVariants.{FromDevice}
-use Rattle.mt_elements.specs.ChainState.{ChainState}
-use Rattle.mt_elements.specs.ChainState.{next_of}
+use Rattle.mt_kinds.specs.declared.kind.Kind.{Kind}
+use Rattle.mt_kinds.specs.Ports.{is_rewriter}
+use Rattle.mt_elements.specs.ChainState.{ChainState, IsKind, next_of, entry_of}
 use Rattle.mt_chain.specs.declared.step.Exit.{Exit}
 use Rattle.mt_chain.specs.declared.step.Exit.TheVariants.{Leaves, Stops}
 use Rattle.mt_chain.specs.declared.run.Fate.{Fate}
@@ -76,26 +75,22 @@ follow along state (Ends ending) = Some (record { fate = fate_of state.packet en
 abbrev pub goes_on : ChainState → ℕ → Kind → (ℕ × ℕ → State → Option Run) → State × Exit → Option Run
 goes_on chain element kind along after = option_and_then (follow along after.0) (next_after chain element kind after.1)
 
--- The run from an element and its input on. `most` is no less than the number of elements on the way.
+-- The run from an element and its input on, over at most so many elements.
 unfoldable pub run_from : ℕ → ChainState → ℕ × ℕ → State → Option Run
 run_from zero chain port state = None
 run_from (suc most) chain port state =
     option_and_then (λ kind. option_and_then (goes_on chain port.0 kind (run_from most chain)) (element_step kind port.1 state)) (slice_get chain.kinds port.0)
 
-abbrev pub is_entry : ℕ → Kind → Bool
-is_entry device (FromDevice number) = number == device
-is_entry device kind = false
-
--- the element by which the packets of a device enter
-abbrev pub entry_of : ChainState → ℕ → Option ℕ
-entry_of chain device = position (is_entry device) chain.kinds
-
 -- The run of a packet that arrives, from what the chain remembers and the ports to be picked to its fate,
 -- what the chain then remembers and the ports that are left. It has no value where a port that it needs
--- is missing or is not free, or where the chain has no way for it.
+-- is missing or is not free, or where the chain has no way for it. It follows each wire at most once.
 unfoldable pub run_packet : ChainState → TablesState → PacketState → List ℕ → Option Run
 run_packet chain tables packet picks =
-    option_and_then (λ entry. run_from (length chain.kinds) chain (entry, 0) (record { packet = packet; tables = tables; picks = picks })) (entry_of chain packet.device)
+    option_and_then (λ entry. run_from (suc (length chain.wires)) chain (entry, 0) (record { packet = packet; tables = tables; picks = picks })) (entry_of chain packet.device)
+
+-- no element is a rewriter
+abbrev pub IsStateless : ChainState → Type 0
+IsStateless chain = (element : ℕ) (kind : Kind) → IsKind chain element kind → is_rewriter kind ≡ false
 
 -- ---- what a call tells of it
 

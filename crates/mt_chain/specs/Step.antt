@@ -1,5 +1,6 @@
 -- The step of a stateless element on a packet: one line for each class (Click manual, in this project's
--- profile). A packet at a layer that the element does not take (`takes` of mt_elements) has no step.
+-- profile). A packet at a layer that the element does not take (`takes` of mt_kinds) has no step, and rewriters and
+-- mappers have none by themselves.
 use Rattle.std.specs.Prelude.{◌≡◌, ℕ, ◌-◌, ◌==◌, Bool, nat_le, if◌then◌else◌, position, length, Option, Some, None}
 use Rattle.mt_packet.specs.Flow.{packet_flow}
 use Rattle.mt_packet.specs.Ipv4.{is_valid_ipv4}
@@ -11,17 +12,17 @@ use Rattle.mt_packet.specs.declared.field.Field.{Field}
 use Rattle.mt_packet.specs.declared.field.Field.TheVariants as of
 use Rattle.mt_packet.specs.declared.flow.Flow.{Flow}
 use Rattle.mt_packet.specs.declared.layer.Layer.TheVariants.{Bare, Ip, Framed}
-use Rattle.mt_elements.specs.Layers.{takes}
-use Rattle.mt_elements.specs.declared.kind.End.{End}
-use Rattle.mt_elements.specs.declared.kind.End.TheVariants.{Src, Dst}
-use Rattle.mt_elements.specs.declared.kind.Kind.{Kind}
-use Rattle.mt_elements.specs.declared.kind.Kind.TheVariants.{FromDevice, ToDevice, Classifier, Discard, Null, Counter, Queue, Paint, PaintSwitch, EtherMirror, Strip, CheckIPHeader, EtherEncap, DecIPTTL, SetIPDSCP, StoreIPAddress, GetIPAddress, IPMirror, IPFilter, IPClassifier, Route}
+use Rattle.mt_kinds.specs.Layers.{takes}
+use Rattle.mt_kinds.specs.declared.kind.End.{End}
+use Rattle.mt_kinds.specs.declared.kind.End.TheVariants.{Src, Dst}
+use Rattle.mt_kinds.specs.declared.kind.Kind.{Kind}
+use Rattle.mt_kinds.specs.declared.kind.Kind.TheVariants.{FromDevice, ToDevice, Classifier, Discard, Null, Counter, Queue, Paint, PaintSwitch, EtherMirror, Strip, CheckIPHeader, EtherEncap, DecIPTTL, SetIPDSCP, StoreIPAddress, GetIPAddress, IPMirror, IPFilter, IPClassifier, Route, IPRewriter, RoundRobinIPMapper}
 use Rattle.mt_chain.specs.declared.step.Exit.{Exit}
 use Rattle.mt_chain.specs.declared.step.Exit.TheVariants.{Leaves, Stops}
 use Rattle.mt_chain.specs.declared.step.Ending.TheVariants.{Sent, Dropped}
-use Rattle.mt_elements.specs.declared.hop.Hop.{Hop}
-use Rattle.mt_elements.specs.declared.rule.FilterAction.{FilterAction}
-use Rattle.mt_elements.specs.declared.rule.FilterAction.TheVariants.{Deny, Out}
+use Rattle.mt_kinds.specs.declared.hop.Hop.{Hop}
+use Rattle.mt_kinds.specs.declared.rule.FilterAction.{FilterAction}
+use Rattle.mt_kinds.specs.declared.rule.FilterAction.TheVariants.{Deny, Out}
 use Rattle.mt_chain.specs.Filter.{holds_on, action_on}
 use Rattle.mt_chain.specs.Route.{route_of}
 use Rattle.mt_chain.specs.Classifier.{value_of, is_whole, pattern_holds}
@@ -121,6 +122,8 @@ class_step IPMirror packet = leaves (ports_swapped (addresses_swapped packet) (p
 class_step (IPFilter rules) packet = by_action packet (action_on (packet_header packet) rules)
 class_step (IPClassifier patterns) packet = by_ip_pattern packet (position (holds_on (packet_header packet)) patterns)
 class_step (Route hops) packet = by_hop packet (route_of packet.annotation hops)
+class_step (IPRewriter specs) packet = None
+class_step (RoundRobinIPMapper templates) packet = None
 
 -- of an element
 unfoldable pub stateless_step : Kind → PacketState → Option (PacketState × Exit)

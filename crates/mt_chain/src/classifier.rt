@@ -4,7 +4,7 @@ ghost use Rattle.std.specs.Bool.{OnTrue};
 ghost use Rattle.mt_packet.specs.Packet.{HasEthernet};
 ghost use Rattle.mt_chain.specs.Classifier.{is_whole, has_value, clause_holds, pattern_holds, value_of};
 
-use mt_elements::{Clause, Patterns};
+use mt_kinds::{Clause, Patterns};
 use mt_packet::{Field, Packet};
 
 /// Whether the packet has an Ethernet header of 14 bytes.

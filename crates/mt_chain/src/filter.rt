@@ -2,7 +2,7 @@
 ghost use Rattle.std.specs.Prelude.{◌≡◌, ◌<◌, length, position, IfSome};
 ghost use Rattle.mt_chain.specs.Filter.{holds_on, action_on};
 
-use mt_elements::{FilterAction, Rule};
+use mt_kinds::{FilterAction, Rule};
 use mt_packet::Header;
 use mt_pattern::{Pattern, holds};
 

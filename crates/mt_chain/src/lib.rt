@@ -4,7 +4,6 @@
 #![tactic(auto)]
 
 mod classifier;
-mod entry;
 mod filter;
 pub mod laws;
 mod route;

@@ -2,7 +2,7 @@
 ghost use Rattle.std.specs.Prelude.{◌≡◌, ◌≤◌};
 ghost use Rattle.mt_chain.specs.Route.{is_in, is_longer, better, route_of, IsRoute};
 
-use mt_elements::Hop;
+use mt_kinds::Hop;
 
 /// Whether an address is in the prefix of an entry.
 #[tactic(auto, unfolding(crate::specs::Route::is_in, mt_pattern::specs::Span::prefix_span))]

@@ -2,13 +2,14 @@
 ghost use Rattle.std.specs.Prelude.{◌≡◌, ◌≤◌, Some, length, IfOk, IfErr, OnErr};
 ghost use Rattle.mt_packet.specs.declared.layer.Layer.TheVariants as layer;
 ghost use Rattle.mt_chain.specs.Kept.{ComesFrom};
-ghost use Rattle.mt_chain.specs.Run.{Run, run_packet, run_told, entry_of, IsThere, RunCause};
+ghost use Rattle.mt_elements.specs.ChainState.{entry_of};
+ghost use Rattle.mt_chain.specs.Run.{Run, run_packet, run_told, IsStateless, IsThere, RunCause};
 
 use crate::Tables;
-use crate::entry::entry_of;
 use crate::walk::walk;
 use mt_elements::Chain;
 use mt_packet::{Cause, Field, Packet, Stamped};
+use mt_wiring::laws::ranks;
 
 /// What becomes of a packet.
 #[derive(Drop)]
@@ -47,6 +48,7 @@ pub fn run_one(
 ) -> Result<Ran, RunFault>
     requires arrived { packet.layer ≡ layer.Frame }
     requires known { IsThere (entry_of chain.now packet.device) }
+    requires stateless { IsStateless chain.now }
     ensures run { IfOk result (λ ran. run_packet chain.now tables.old packet picks.now ≡ Some (run_told tables.new picks.now ran)) }
     ensures always { (run : Run) × (run_packet chain.now tables.old packet picks.now ≡ Some run) × (length run.picks ≤ length picks.now) }
     ensures sent { IfOk result (λ ran. ComesFrom packet ran.fate) }
@@ -55,7 +57,8 @@ pub fn run_one(
     ensures unchanged { OnErr result (tables.new ≡ tables.old) }
 {
     chain.is_accepted();
-    let Some(entry) = entry_of(chain, packet.field(Field::Device) as u32) else {
+    ranks();
+    let Some(entry) = chain.entry(packet.field(Field::Device) as u32) else {
         unreachable!();
     };
     match walk(chain, tables, packet, picks, entry) {

@@ -3,14 +3,16 @@ ghost use Rattle.std.specs.Prelude.{◌≡◌, true, option_map};
 ghost use Rattle.mt_packet.specs.Packet.{with_field, datagram_of, CanWrite, IsChecked};
 ghost use Rattle.mt_packet.specs.Ipv4.{has_ports};
 ghost use Rattle.mt_packet.specs.declared.layer.Layer.TheVariants as layer;
-ghost use Rattle.mt_elements.specs.Layers.{is_ip, takes};
-ghost use Rattle.mt_elements.specs.declared.kind.Kind.TheVariants as kind;
+ghost use Rattle.mt_kinds.specs.Layers.{is_ip, takes};
+ghost use Rattle.mt_kinds.specs.declared.kind.Kind.TheVariants as kind;
 ghost use Rattle.mt_chain.specs.Step.{class_step, stateless_step, IsSound};
 
 use crate::classifier::{first_pattern, is_whole};
 use crate::filter::{action, first_ip_pattern};
 use crate::route::route;
-use mt_elements::{End, FilterAction, Hops, IPPatterns, Kind, Patterns, Rules, takes};
+use mt_kinds::{
+    End, FilterAction, Hops, IPPatterns, Kind, Patterns, Rules, Specs, Templates, takes,
+};
 use mt_packet::{Cause, Field, Packet, Writes};
 
 /// How the run of a packet ends.
@@ -75,6 +77,8 @@ fn act(kind: &Kind, packet: &mut Packet) -> Option<Exit>
         Kind::IPFilter(rules) => filter(packet, rules),
         Kind::IPClassifier(patterns) => classify_ip(packet, patterns),
         Kind::Route(hops) => follow(packet, hops),
+        Kind::IPRewriter(specs) => rewrite(packet, specs),
+        Kind::RoundRobinIPMapper(templates) => map(packet, templates),
     }
 }
 
@@ -347,4 +351,20 @@ fn follow(packet: &mut Packet, hops: &Hops) -> Option<Exit>
         set(packet, Field::Annotation, u64::from(gateway));
     }
     Some(Exit::Leaves(hop.out))
+}
+
+/// A rewriter has no step without mappings.
+#[tactic(auto, unfolding(crate::specs::Step::class_step))]
+fn rewrite(_packet: &Packet, _specs: &Specs) -> Option<Exit>
+    ensures { option_map (λ exit. (_packet.now, exit)) result ≡ class_step (kind.IPRewriter _specs.now) _packet.now }
+{
+    None
+}
+
+/// No packet comes to a mapper.
+#[tactic(auto, unfolding(crate::specs::Step::class_step))]
+fn map(_packet: &Packet, _templates: &Templates) -> Option<Exit>
+    ensures { option_map (λ exit. (_packet.now, exit)) result ≡ class_step (kind.RoundRobinIPMapper _templates.now) _packet.now }
+{
+    None
 }

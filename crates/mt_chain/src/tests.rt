@@ -5,14 +5,13 @@ ghost use Rattle.mt_packet.specs.declared.layer.Layer.TheVariants as layer;
 ghost use Rattle.mt_chain.specs.Step.{IsSound};
 
 use crate::step::{Exit, pass};
-use mt_elements::Kind;
+use mt_kinds::Kind;
 use mt_packet::{Field, Frame, Layer, Packet, Stamped};
 use mt_text::hexadecimal_of_length;
 use std::alloc::{AllocError, Global};
 
 mod elements;
 mod filters;
-mod runs;
 
 /// A UDP packet from 10.0.0.5:5000 to 198.51.100.9:53 with time to live 64, behind an Ethernet header.
 const UDP: &str = "020000000002 020000000001 0800

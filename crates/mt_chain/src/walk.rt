@@ -1,11 +1,12 @@
 //! The walk of a packet along the wires of a chain, from an element to its end.
-ghost use Rattle.std.specs.Prelude.{◌≡◌, length, option_map, IfSome};
+ghost use Rattle.std.specs.Prelude.{◌≡◌, suc, length, option_map, IfSome};
 ghost use Rattle.mt_chain.specs.Step.{IsSound, unwired_cause};
 ghost use Rattle.mt_chain.specs.Run.{run_told, run_from, fate_of, next_after};
 
 use crate::step::{Ending, Exit, pass};
 use crate::{Fate, Ran, Tables};
-use mt_elements::{Chain, Kind};
+use mt_elements::Chain;
+use mt_kinds::Kind;
 use mt_packet::{Cause, Packet};
 
 /// Where a packet goes from an element.
@@ -54,12 +55,12 @@ pub(crate) fn walk(
     entry: u32,
 ) -> Option<Ran>
     requires sound { IsSound packet }
-    ensures run { option_map (λ ran. run_told tables.now picks.now ran) result ≡ run_from (length chain.now.kinds) chain.now (entry, 0) (record { packet = packet; tables = tables.now; picks = picks.now }) }
+    ensures run { option_map (λ ran. run_told tables.now picks.now ran) result ≡ run_from (suc (length chain.now.wires)) chain.now (entry, 0) (record { packet = packet; tables = tables.now; picks = picks.now }) }
     ensures used { IfSome result (λ ran. ran.used ≡ 0) }
 {
     let mut packet = packet;
     let mut port = (entry, 0);
-    for _ in 0..chain.elements() {
+    for _ in 0..chain.wires() + 1 {
         if port.0 >= chain.elements() {
             return None;
         }

@@ -1,11 +1,22 @@
-mod ArgumentsSpelled
-mod ChainsAccepted
-mod ClassifiedAccepted
-mod CommentFound
-mod LineAccepted
-mod LineWalked
-mod MiddleKinds
-mod Rows
-mod ShapesRead
-mod TextsAccepted
-mod UsesRead
+pub mod Lookups
+pub mod Scopes
+pub mod InRange
+pub mod Firsts
+pub mod WiresTold
+pub mod NextFound
+pub mod ChainNext
+pub mod Classes
+pub mod Made
+pub mod Numbered
+pub mod Bounds
+pub mod Walks
+pub mod Faultless
+pub mod LowestTold
+pub mod Overlapping
+pub mod TableBuilt
+pub mod OneAnswer
+pub mod CountsRaised
+pub mod Looked
+pub mod Rows
+pub mod Turns
+pub mod Checked

@@ -1,63 +1,70 @@
--- The definitions on arguments and texts that were read by hand.
-use Rattle.std.proofs.Common.{◌≡◌, [], ◌∷◌, Some, None, true, false, refl}
-use Rattle.std.specs.Prelude.{codes}
-use Rattle.mt_text.specs.Number.{decimal_value, hexadecimal_value, decimal_of, hexadecimal_of, hexadecimal_of_length, number_of, number_up_to, decimal_up_to}
-use Rattle.mt_text.specs.Address.{ipv4_address_of}
-use Rattle.mt_syntax.specs.Comment.{comment_at, hidden}
-use Rattle.mt_syntax.specs.Closing.{closing}
-use Rattle.mt_syntax.specs.Piece.{word_at, digits_at, parameter_at, arguments_at, pair_at, mark_of, mark_at, plain_at, piece_at}
-use Rattle.mt_syntax.specs.Tokens.{tokens_from}
-use Rattle.mt_syntax.specs.Words.{bytes_of, inner}
-use Rattle.mt_syntax.specs.Arguments.{tidy_after, between_commas, separated}
-use Rattle.mt_packet.specs.declared.layer.Layer.TheVariants.{Frame}
-use Rattle.mt_elements.specs.declared.kind.Clause.TheVariants.{EthType, EthDst, ArpOp}
-use Rattle.mt_elements.specs.declared.kind.End.TheVariants.{Dst}
-use Rattle.mt_elements.specs.declared.kind.Kind.TheVariants.{Null, Paint, Strip, CheckIPHeader, EtherEncap, DecIPTTL, StoreIPAddress}
-use Rattle.mt_text.specs.Byte.{is_identifier}
-use Rattle.mt_elements.specs.Arguments.{is_keyword, end_of}
-use Rattle.mt_lists.specs.Options.{each}
-use Rattle.mt_elements.specs.Patterns.{clause_of, may_stand, together, pattern_of}
-use Rattle.mt_elements.specs.Classes.{plain, paint_of, store_of, plain_kind, frame_kind, datagram_kind, stateless_kind}
-use Rattle.mt_elements.specs.ShapeTokens as tokens
-use Rattle.mt_elements.specs.ShapeChains.{line_fits, line_chain, fitting_line, device_named, device_of, line_of, straight_of, straight_in, chain_in, chain_of}
+-- The definitions on small examples.
+use Rattle.std.proofs.Common.{◌≡◌, refl, ℕ, Bool, true, false, List, [], ◌∷◌}
+use Rattle.std.specs.Prelude.{codes, Option, Some, None, Ok}
+use Rattle.std.specs.Str.{bytes_eq}
+use Rattle.mt_kinds.specs.declared.description.Description.TheVariants.{FromDevice, ToDevice, Rewriter}
+use Rattle.mt_kinds.specs.declared.description.Misread.TheVariants.{BadArgs}
+use Rattle.mt_kinds.specs.declared.rewriter.Pool.{Pool}
+use Rattle.mt_kinds.specs.declared.rewriter.SourcePort.TheVariants as port
+use Rattle.mt_kinds.specs.declared.rewriter.Spec.TheVariants as spec
+use Rattle.mt_kinds.specs.declared.written.WrittenPort.TheVariants.{Same, One, Range}
+use Rattle.mt_kinds.specs.declared.written.WrittenSpec.TheVariants.{Drop, Mapper}
+use Rattle.mt_elements.specs.Described.{scope_length, scope_of, is_known, misfit, firsts, entries_of, devices_of, device_of, is_pool, port_of, spec_of}
 
-arp_requests : pattern_of (codes "12/0806 20/0001 0/020000000002") ≡ Some (EthType 2054 ∷ ArpOp 1 ∷ EthDst 2199023255554 ∷ [])
-unfolding pattern_of each clause_of hexadecimal_of_length hexadecimal_value may_stand together
-arp_requests = refl
+-- ---- scopes and mappers
 
-operations_alone : pattern_of (codes "20/0001") ≡ None
-unfolding pattern_of each clause_of hexadecimal_of_length hexadecimal_value may_stand together
-operations_alone = refl
+declared_inside : scope_of (codes "12/3/rw") ≡ codes "12/3/"
+unfolding scope_length
+declared_inside = refl
 
-a_keyword : is_keyword (codes "COUNT_CALL 12 x") ≡ true
-unfolding is_keyword
-a_keyword = refl
+declared_outside : scope_of (codes "rw") ≡ []
+unfolding scope_length
+declared_outside = refl
 
-no_keyword : is_keyword (codes "Rate") ≡ false
-unfolding is_keyword
-no_keyword = refl
+without_a_name : scope_of (codes "7/") ≡ codes "7/"
+unfolding scope_length
+without_a_name = refl
 
-greatest_paint : stateless_kind (codes "Paint") (codes "0xFF" ∷ []) ≡ Some (Paint 255)
-unfolding stateless_kind plain_kind paint_of number_up_to number_of hexadecimal_of hexadecimal_value
-greatest_paint = refl
+abbrev two_mappers : List (List ℕ)
+two_mappers = codes "m" ∷ codes "2/m" ∷ []
 
-too_great_a_paint : stateless_kind (codes "Paint") (codes "256" ∷ []) ≡ None
-unfolding stateless_kind plain_kind frame_kind datagram_kind paint_of number_up_to number_of decimal_of decimal_value
-too_great_a_paint = refl
+mapper_inside : spec_of [] two_mappers (codes "2/") (Mapper (codes "m")) ≡ spec.Mapper 1
+mapper_inside = refl
 
-stored : stateless_kind (codes "StoreIPAddress") (codes "198.51.100.10" ∷ codes "dst" ∷ []) ≡ Some (StoreIPAddress 3325256714 Dst)
-unfolding stateless_kind plain_kind frame_kind datagram_kind store_of ipv4_address_of decimal_up_to decimal_of decimal_value end_of
-stored = refl
+mapper_outside : is_known two_mappers (codes "3/") (Mapper (codes "m")) ≡ false
+mapper_outside = refl
 
--- a packet that was not checked has no time to live
-not_checked : line_fits Frame (Strip ∷ DecIPTTL ∷ []) ≡ false
-unfolding line_fits
-not_checked = refl
+-- ---- what is wrong with an element
 
-checked_first : line_fits Frame (Strip ∷ CheckIPHeader ∷ DecIPTTL ∷ EtherEncap 2048 10 11 ∷ Strip ∷ DecIPTTL ∷ []) ≡ true
-unfolding line_fits
-checked_first = refl
+unknown_mapper : misfit two_mappers [] (codes "3/") (Rewriter (Drop ∷ Mapper (codes "m") ∷ [])) ≡ Some BadArgs
+unknown_mapper = refl
 
-one_element : chain_of (codes "FromDevice(a)->Null->ToDevice(b);") ≡ Some (line_chain (codes "a") (Null ∷ []) (codes "b"))
-unfolding chain_of chain_in straight_in straight_of line_of fitting_line line_fits device_of device_named each stateless_kind plain_kind plain is_identifier tokens.sign_at tokens.is_end tokens.name_at tokens.arguments_at tokens.use_at tokens.uses_from tokens.begins_comment tokens.has_comment comment_at hidden closing word_at digits_at parameter_at arguments_at pair_at mark_of mark_at plain_at piece_at tokens_from tidy_after between_commas separated bytes_of inner
-one_element = refl
+entered_twice : misfit [] (codes "eth0" ∷ []) [] (FromDevice (codes "eth0")) ≡ Some BadArgs
+entered_twice = refl
+
+sent_twice : misfit [] (codes "eth0" ∷ []) [] (ToDevice (codes "eth0")) ≡ None
+sent_twice = refl
+
+-- ---- numbers
+
+-- devices by which frames enter stand first, in the order of the elements
+devices_in_order : devices_of (ToDevice (codes "b") ∷ ToDevice (codes "c") ∷ FromDevice (codes "a") ∷ FromDevice (codes "b") ∷ ToDevice (codes "a") ∷ []) ≡ codes "a" ∷ codes "b" ∷ codes "c" ∷ []
+devices_in_order = refl
+
+second_device : device_of (codes "a" ∷ codes "b" ∷ []) (codes "b") ≡ 2
+second_device = refl
+
+abbrev low : Pool
+low = record { address = 1; lo = 1; hi = 9 }
+
+abbrev high : Pool
+high = record { address = 1; lo = 10; hi = 19 }
+
+pools_once : firsts is_pool (low ∷ high ∷ low ∷ []) ≡ low ∷ high ∷ []
+pools_once = refl
+
+second_pool : port_of (low ∷ high ∷ []) (Some 1) (Range 10 19) ≡ port.Pool 1
+second_pool = refl
+
+one_port : port_of (low ∷ high ∷ []) (Some 1) (One 10) ≡ port.One 10
+one_port = refl

@@ -1,44 +1,68 @@
--- What holds of each chain that is accepted.
-use Rattle.std.specs.Prelude.{◌≡◌, ℕ, ◌<◌, ◌≤◌, Bool, true, length, slice_get, Option, Some, None}
+-- Which chains are accepted.
+use Rattle.std.specs.Prelude.{◌≡◌, ◌<◌, ◌⊎◌, ℕ, Bool, true, false, List, length, slice_get, Option, Some, None}
 use Rattle.mt_packet.specs.declared.layer.Layer.{Layer}
-use Rattle.mt_packet.specs.declared.layer.Layer.TheVariants.{Frame}
-use Rattle.mt_elements.specs.declared.kind.Kind.{Kind}
-use Rattle.mt_elements.specs.declared.kind.Kind.TheVariants.{FromDevice, ToDevice, SetIPDSCP}
-use Rattle.mt_elements.specs.ChainState.{ChainState}
-use Rattle.mt_elements.specs.ChainState.{next_of, wired_of}
-use Rattle.mt_elements.specs.Layers.{takes, layer_behind, output_count, may_be_open}
+use Rattle.mt_kinds.specs.Layers.{takes, layer_behind}
+use Rattle.mt_kinds.specs.Ports.{leads}
+use Rattle.mt_kinds.specs.declared.kind.Kind.{Kind}
+use Rattle.mt_kinds.specs.declared.kind.Kind.TheVariants.{FromDevice}
+use Rattle.mt_kinds.specs.declared.rewriter.Template.{Template}
+use Rattle.mt_wiring.specs.Ways.{Behavior, OnRing, Clashes}
+use Rattle.mt_elements.specs.ChainState.{ChainState, mappers_of}
+use Rattle.mt_elements.specs.Overlaps.{Overlaps}
+use Rattle.mt_elements.specs.Wired.{AreWired, HasOpen}
 
--- the element of that number is of that kind
-abbrev pub IsKind : ChainState → ℕ → Kind → Type 0
-IsKind chain element kind = slice_get chain.kinds element ≡ Some kind
+-- ---- what elements do with packets
 
--- Where an output of an element leads at a layer: to a later element, which is then reached at that layer.
--- An output that leads nowhere has to be one that may.
-abbrev pub LeadsOn : ChainState → (ℕ → Layer → Bool) → ℕ → Layer → Bool → Option (ℕ × ℕ) → Type 0
-LeadsOn chain reached element layer free (Some wire) = (element < wire.0) × (wire.0 < length chain.kinds) × (reached wire.0 layer ≡ true)
-LeadsOn chain reached element layer free None = free ≡ true
+abbrev pub leads_at : List (List Template) → Option Kind → ℕ → ℕ → Bool
+leads_at mappers (Some kind) input out = leads mappers kind input out
+leads_at mappers None input out = false
 
--- An accepted chain, with the layers at which each of its elements is reached.
-pub record IsAccepted (chain : ChainState) (reached : ℕ → Layer → Bool) : Type 0 where
-  -- packets arrive on device 1
-  pub entry : (element : ℕ) × IsKind chain element (FromDevice 1)
-  -- packets enter the element of their device as frames
-  pub enters : (element device : ℕ) → IsKind chain element (FromDevice device) → reached element Frame ≡ true
-  -- an element takes each layer at which it is reached
-  pub fits : (element : ℕ) (kind : Kind) (layer : Layer) → IsKind chain element kind → reached element layer ≡ true
-      → takes kind layer ≡ true
-  -- each of its outputs leads on, or may be open
-  pub leads : (element out : ℕ) (kind : Kind) (layer : Layer) → IsKind chain element kind → reached element layer ≡ true
-      → out < output_count kind (wired_of chain element)
-      → LeadsOn chain reached element (layer_behind kind layer out) (may_be_open kind out) (next_of chain element out)
-  -- it has no other outputs
-  pub ends : (element out : ℕ) (kind : Kind) → IsKind chain element kind → output_count kind (wired_of chain element) ≤ out
-      → next_of chain element out ≡ None
-  -- a code point has six bits
-  pub points : (element point : ℕ) → IsKind chain element (SetIPDSCP point) → point ≤ 63
-  -- packets are sent on devices that the chain names
-  pub sends : (element device : ℕ) → IsKind chain element (ToDevice device) → (0 < device) × (device ≤ length chain.devices)
+abbrev pub enters_at : Option Kind → Bool
+enters_at (Some (FromDevice device)) = true
+enters_at kind = false
 
--- A chain that is accepted, so that every packet that arrives on one of its devices can run through it.
-abbrev pub CanRun : ChainState → Type 0
-CanRun chain = (reached : ℕ → Layer → Bool) × IsAccepted chain reached
+abbrev pub takes_at : Option Kind → Layer → Bool
+takes_at (Some kind) layer = takes kind layer
+takes_at None layer = false
+
+abbrev pub behind_at : Option Kind → Layer → ℕ → Layer
+behind_at (Some kind) layer out = layer_behind kind layer out
+behind_at None layer out = layer
+
+-- what the elements do with packets, by their numbers
+abbrev pub behavior_of : List Kind → Behavior
+behavior_of kinds = record {
+  leads = λ element input out. leads_at (mappers_of kinds) (slice_get kinds element) input out;
+  enters = λ element. enters_at (slice_get kinds element);
+  takes = λ element layer. takes_at (slice_get kinds element) layer;
+  behind = λ element layer out. behind_at (slice_get kinds element) layer out;
+}
+
+-- an input of the element is on a ring
+abbrev pub Rings : ChainState → ℕ → Type 0
+Rings chain element = OnRing (behavior_of chain.kinds).leads chain.wires element
+
+-- packets reach the element at a layer that it does not take
+abbrev pub Misfits : ChainState → ℕ → Type 0
+Misfits chain element = Clashes (behavior_of chain.kinds) chain.wires element
+
+-- ---- devices
+
+-- frames enter by no device, or there are more than 32
+abbrev pub LacksDevices : ChainState → Type 0
+LacksDevices chain = (chain.entries ≡ 0) ⊎ (32 < length chain.devices)
+
+-- ---- all of them
+
+pub record IsAccepted (chain : ChainState) : Type 0 where
+  -- each wire joins ports that are there, and each output is wired once or may be open
+  pub wired : AreWired chain
+  pub closed : (element : ℕ) → HasOpen chain element → ⊥
+  -- no input port is on a ring
+  pub acyclic : (element : ℕ) → Rings chain element → ⊥
+  -- each element takes the layers at which it is reached
+  pub fits : (element : ℕ) → Misfits chain element → ⊥
+  -- unequal pools have no port in common
+  pub apart : (element : ℕ) → Overlaps chain element → ⊥
+  -- there are 1 to 32 devices, and frames enter by one of them
+  pub devices : LacksDevices chain → ⊥

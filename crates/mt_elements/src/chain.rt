@@ -1,75 +1,104 @@
-//! A chain: elements, the wires between them, and its devices.
-ghost use Rattle.std.specs.Prelude.{◌≡◌, ◌<◌, ◌^◌, length, slice_get, Some, map};
-ghost use Rattle.mt_elements.specs.Accepted.{CanRun};
-ghost use Rattle.mt_elements.specs.ChainState.{next_of};
+//! A chain that was accepted: its elements, where their outputs lead, its devices, pools and mappers.
+ghost use Rattle.std.specs.Prelude.{◌≡◌, ◌<◌, ◌≤◌, ◌^◌, ℕ, suc, length, map, position, slice_get, Option, Some, IfOk};
+ghost use Rattle.std.specs.List.{All};
+ghost use Rattle.mt_elements.specs.Accepted.{IsAccepted};
+ghost use Rattle.mt_elements.specs.ChainState.{entry_of, is_entry, mappers_of, next_of, specs_in};
+ghost use Rattle.mt_elements.specs.Kept.{AreArrivals};
+ghost use Rattle.mt_elements.specs.Numbered.{IsNumbered};
+ghost use Rattle.mt_elements.specs.Table.{IsTable};
 
-use crate::Kind;
+use crate::layout::Layout;
+use mt_kinds::{Kind, Pool, Spec, Templates};
 use mt_text::Text;
+use std::alloc::{AllocError, Global};
 use std::marker::Model;
 
-/// A chain that was accepted, which the type keeps. Elements are numbered from 0, devices from 1: first those on which frames
-/// arrive.
+/// What a server needs of a chain's rewriters: the specifications of each element by its number, none for an
+/// element that is no rewriter, the patterns of each mapper, and the pools.
+#[derive(Drop)]
+pub struct Rewriters {
+    pub specs: Vec<Vec<Spec>>,
+    pub mappers: Vec<Templates>,
+    pub pools: Vec<Pool>,
+}
+
+/// A chain that was accepted, which the type keeps. Elements, mappers and pools are numbered from 0, devices from
+/// 1: first those on which frames arrive.
 #[derive(Drop)]
 pub struct Chain {
-    kinds: Vec<Kind>,
-    outputs: Vec<Vec<Option<(u32, u32)>>>,
-    devices: Vec<Text>,
-    entries: u32,
+    layout: Layout,
+    table: Vec<Vec<Option<(u32, u32)>>>,
+    arrivals: Vec<Option<u32>>,
+    sizes: Vec<u32>,
+    specs: Vec<Vec<Spec>>,
+    pools: Vec<Pool>,
 }
 
 impl Model for Chain {
-    ghost use Rattle.std.specs.Prelude.{◌<◌, ◌^◌, length, map};
+    ghost use Rattle.std.specs.Prelude.{map};
     ghost use Rattle.mt_elements.specs.ChainState.{ChainState};
-    ghost use Rattle.mt_elements.specs.Accepted.{CanRun};
-
-    ghost Value = { ChainState };
-
+    ghost use Rattle.mt_elements.specs.Kept.{Keeps};
     ghost use Rattle.mt_pattern.specs.contracts.pattern.Pattern as pattern;
     ghost use Rattle.std.specs.Coded.{codes};
 
+    ghost Value = { ChainState };
+
     ghost coded = { Prim.hlevel (codes, pattern.the_row.coded) };
 
-    ghost view = { λ c. record { kinds = c.kinds.items; outputs = map (λ v. v.items) c.outputs.items; devices = c.devices.items; entries = c.entries } };
+    ghost view = { λ c. c.layout };
 
-    ghost invariant = { λ c. (length c.kinds.items < 2 ^ 32) × (length c.devices.items < 2 ^ 32)
-        × CanRun (record { kinds = c.kinds.items; outputs = map (λ v. v.items) c.outputs.items; devices = c.devices.items; entries = c.entries }) };
+    ghost invariant = { λ c. Keeps c.layout (map (λ v. v.items) c.table.items) c.arrivals.items c.sizes.items (map (λ v. v.items) c.specs.items) c.pools.items };
 }
 
 impl Chain {
-    /// The chain with these elements, what each of their outputs leads to (the element and its input),
-    /// and these devices, of which the first `entries` are those on which frames arrive.
+    /// The chain of this layout, with the table of where its outputs lead.
     pub(crate) fn new(
-        kinds: Vec<Kind>,
-        outputs: Vec<Vec<Option<(u32, u32)>>>,
-        devices: Vec<Text>,
-        entries: u32,
-    ) -> Chain
-        requires few_elements { length kinds.items < 2 ^ 32 }
-        requires few_devices { length devices.items < 2 ^ 32 }
-        requires accepted { CanRun (record { kinds = kinds.items; outputs = map (λ v. v.items) outputs.items; devices = devices.items; entries = entries }) }
-        ensures { result ≡ record { kinds = kinds.items; outputs = map (λ v. v.items) outputs.items; devices = devices.items; entries = entries } }
+        alloc: Global,
+        layout: Layout,
+        table: Vec<Vec<Option<(u32, u32)>>>,
+    ) -> Result<Chain, AllocError>
+        requires accepted { IsAccepted layout }
+        requires numbered { IsNumbered layout }
+        requires table { IsTable layout (map (λ v. v.items) table.items) }
+        requires short { All (λ templates. length templates < 2 ^ 32) (mappers_of layout.kinds) }
+        ensures { IfOk result (λ c. c ≡ layout) }
     {
-        Chain {
-            kinds,
-            outputs,
-            devices,
-            entries,
-        }
+        let arrivals = arrivals_of(alloc, layout.kinds(), layout.entries())?;
+        let sizes = sizes_of(alloc, layout.mappers())?;
+        let specs = specs_of(alloc, layout.kinds())?;
+        let pools = Vec::from_slice(alloc, layout.pools())?;
+        Ok(Chain {
+            layout,
+            table,
+            arrivals,
+            sizes,
+            specs,
+            pools,
+        })
     }
 
-    /// Every chain is accepted: each element takes the layers at which packets reach it, and each of its
-    /// outputs leads on or is one that may lead nowhere.
+    /// Every chain is accepted: wires join ports that are there, each output is wired once or may lead nowhere,
+    /// no packet comes to an input twice, each element takes the layers at which packets reach it, unequal pools
+    /// have no port in common, and there are 1 to 32 devices.
     pub fn is_accepted(&self)
-        ensures { CanRun self.now }
+        ensures accepted { IsAccepted self.now }
+        ensures numbered { IsNumbered self.now }
     {
-        let _opened = self.entries;
+        let _opened = &self.layout;
     }
 
     /// The number of elements.
     pub fn elements(&self) -> u32
         ensures { result ≡ length self.now.kinds }
     {
-        self.kinds.len() as u32
+        self.layout.kinds().len() as u32
+    }
+
+    /// The elements, by number.
+    pub fn kinds(&self) -> &[Kind]
+        ensures { result.now ≡ self.now.kinds }
+    {
+        self.layout.kinds()
     }
 
     /// What an element is.
@@ -77,29 +106,151 @@ impl Chain {
         requires { element < length self.now.kinds }
         ensures { slice_get self.now.kinds element ≡ Some result.now }
     {
-        &self.kinds[element as usize]
+        &self.layout.kinds()[element as usize]
     }
 
     /// Where an output leads: the element and its input. None where the output is not wired.
     pub fn next(&self, element: u32, out: u32) -> Option<(u32, u32)>
         ensures { result ≡ next_of self.now element out }
     {
-        let outputs = self.outputs.get(element as usize)?;
-        *outputs.get(out as usize)?
+        let row = self.table.get(element as usize)?;
+        *row.get(out as usize)?
     }
 
-    /// The names of the devices, those of device 1 first.
-    pub fn devices(&self) -> &[Text]
-        ensures value { result.now ≡ self.now.devices }
-        ensures few { length result.now < 2 ^ 32 }
+    /// The number of wires.
+    pub fn wires(&self) -> usize
+        ensures wires { result ≡ length self.now.wires }
+        ensures small { result < 2 ^ 63 }
     {
-        &self.devices
+        self.layout.wires().len()
+    }
+
+    /// The names of the devices, that of device 1 first.
+    pub fn devices(&self) -> &[Text]
+        ensures devices { result.now ≡ self.now.devices }
+        ensures few { length self.now.devices ≤ 32 }
+    {
+        self.layout.devices()
     }
 
     /// The number of devices on which frames arrive.
     pub fn entries(&self) -> u32
         ensures { result ≡ self.now.entries }
     {
-        self.entries
+        self.layout.entries()
+    }
+
+    /// The element by which the frames of a device enter. None where it is no device on which frames arrive.
+    pub fn entry(&self, device: u32) -> Option<u32>
+        ensures { result ≡ entry_of self.now device }
+    {
+        *self.arrivals.get(device as usize)?
+    }
+
+    /// The pools, by number.
+    pub fn pools(&self) -> &[Pool]
+        ensures { result.now ≡ self.now.pools }
+    {
+        &self.pools
+    }
+
+    /// The number of patterns of each mapper, by the mapper's number.
+    pub fn mappers(&self) -> &[u32]
+        ensures { result.now ≡ map length (mappers_of self.now.kinds) }
+    {
+        &self.sizes
+    }
+
+    /// What a server needs of the chain's rewriters.
+    pub fn into_rewriters(self) -> Rewriters
+        ensures specs { map (λ v. v.items) result.specs.items ≡ map specs_in self.kinds }
+        ensures mappers { result.mappers.items ≡ mappers_of self.kinds }
+        ensures pools { result.pools.items ≡ self.pools }
+    {
+        let Chain {
+            layout,
+            specs,
+            pools,
+            ..
+        } = self;
+        Rewriters {
+            specs,
+            mappers: layout.into_mappers(),
+            pools,
+        }
+    }
+}
+
+/// The element by which the frames of a device enter.
+fn entry_of(kinds: &[Kind], device: u32) -> Option<u32>
+    requires { length kinds.now ≤ 512 }
+    ensures { result ≡ position (is_entry device) kinds.now }
+{
+    for element in 0..kinds.len() {
+        if is_entry(&kinds[element], device) {
+            return Some(element as u32);
+        }
+    }
+    None
+}
+
+/// Whether frames of a device enter by an element.
+fn is_entry(kind: &Kind, device: u32) -> bool
+    ensures { result ≡ is_entry device kind.now }
+{
+    match kind {
+        Kind::FromDevice(number) => *number == device,
+        _ => false,
+    }
+}
+
+/// For each number up to that of the last device on which frames arrive, the element by which they enter.
+fn arrivals_of(alloc: Global, kinds: &[Kind], entries: u32) -> Result<Vec<Option<u32>>, AllocError>
+    requires { length kinds.now ≤ 512 }
+    ensures whole { IfOk result (λ v. length v.items ≡ suc entries) }
+    ensures each { IfOk result (λ v. (device : ℕ) (entry : Option ℕ) → slice_get v.items device ≡ Some entry → entry ≡ position (is_entry device) kinds.now) }
+{
+    let mut arrivals = Vec::new(alloc);
+    arrivals.push(entry_of(kinds, 0))?;
+    for device in 0..entries {
+        arrivals.push(entry_of(kinds, device + 1))?;
+    }
+    Ok(arrivals)
+}
+
+/// The number of patterns of each mapper.
+fn sizes_of(alloc: Global, mappers: &[Templates]) -> Result<Vec<u32>, AllocError>
+    requires { All (λ templates. length templates < 2 ^ 32) mappers.now }
+    ensures { IfOk result (λ v. v.items ≡ map length mappers.now) }
+{
+    let mut sizes = Vec::new(alloc);
+    let mut rest = mappers;
+    while let [templates, after @ ..] = rest {
+        sizes.push(templates.as_slice().len() as u32)?;
+        rest = after;
+    }
+    Ok(sizes)
+}
+
+/// The specifications of each element, none where it is no rewriter.
+fn specs_of(alloc: Global, kinds: &[Kind]) -> Result<Vec<Vec<Spec>>, AllocError>
+    ensures { IfOk result (λ v. map (λ s. s.items) v.items ≡ map specs_in kinds.now) }
+{
+    let mut all = Vec::new(alloc);
+    let mut rest = kinds;
+    while let [kind, after @ ..] = rest {
+        all.push(specs_in(alloc, kind)?)?;
+        rest = after;
+    }
+    Ok(all)
+}
+
+/// The specifications of an element, none where it is no rewriter.
+fn specs_in(alloc: Global, kind: &Kind) -> Result<Vec<Spec>, AllocError>
+    ensures { IfOk result (λ v. v.items ≡ specs_in kind.now) }
+{
+    match kind {
+        Kind::IPRewriter(specs) => Vec::from_slice(alloc, specs.as_slice()),
+        _ => Ok(Vec::new(alloc)),
     }
 }

@@ -1,36 +1,16 @@
-//! What holds of every text that is read, and which texts are.
-ghost use Rattle.mt_elements.specs.ShapeSpelling.{SmallIsAccepted, StraightIsRead, ClassifiedIsRead};
-ghost use Rattle.mt_elements.specs.ArgumentSpelling.{RulesAreSpelled, HopsAreSpelled, LowBitsAreZero};
+//! What holds of all graphs.
+ghost use Rattle.std.specs.Prelude.{◌≡◌, List};
+ghost use Rattle.mt_graph.specs.declared.Element.{Element};
+ghost use Rattle.mt_graph.specs.declared.Wire.{Wire};
+ghost use Rattle.mt_elements.specs.declared.fault.ChainFault.{ChainFault};
+ghost use Rattle.mt_elements.specs.Accepted.{IsAccepted};
+ghost use Rattle.mt_elements.specs.ChainState.{ChainState};
+ghost use Rattle.mt_elements.specs.Described.{IsChainOf};
+ghost use Rattle.mt_elements.specs.Refused.{IsRefused};
 
-/// The chain of a text is accepted: packets arrive on a device, each element takes the layers at which it
-/// is reached, and each of its outputs leads to a later element or is one that may lead nowhere.
-pub fn small_is_accepted()
-    ensures { SmallIsAccepted }
-{}
-
-/// A text whose tokens are a line of uses is read as that line, with any names and any white space.
-pub fn straight_is_read()
-    ensures { StraightIsRead }
-{}
-
-/// A text whose tokens are those of the second shape is read as its chain, with any names, any two patterns
-/// and any white space.
-pub fn classified_is_read()
-    ensures { ClassifiedIsRead }
-{}
-
-/// An argument of an `IPFilter` is read as a rule exactly where it is an action, a space and a pattern.
-pub fn rules_are_spelled()
-    ensures { RulesAreSpelled }
-{}
-
-/// An argument of a route table is read as an entry exactly where it is a prefix, perhaps a gateway, and an
-/// output, with a space between two of them.
-pub fn hops_are_spelled()
-    ensures { HopsAreSpelled }
-{}
-
-/// In the address of an entry of a route table the bits past the length of its prefix are 0.
-pub fn low_bits_are_0()
-    ensures { LowBitsAreZero }
+/// A graph is one chain that is accepted, or has one refusal, and not both.
+pub fn one_answer()
+    ensures chain { (elements : List Element) (wires : List Wire) (c d : ChainState) → IsChainOf elements wires c → IsChainOf elements wires d → c ≡ d }
+    ensures either { (elements : List Element) (wires : List Wire) (c : ChainState) (f : ChainFault) → IsChainOf elements wires c → IsAccepted c → IsRefused elements wires f → ⊥ }
+    ensures refusal { (elements : List Element) (wires : List Wire) (f g : ChainFault) → IsRefused elements wires f → IsRefused elements wires g → f ≡ g }
 {}

@@ -16,6 +16,22 @@ const FORWARD: &str = "FromDevice(a) -> Strip(14) -> CheckIPHeader
 const ROUTER: &str = "FromDevice(a) -> Strip(14) -> CheckIPHeader -> DecIPTTL
     -> EtherEncap(0x0800, 02:00:00:00:00:0a, 02:00:00:00:00:0b) -> ToDevice(b);";
 
+// The router made of compound classes, with its wires in another order than its elements.
+const COMPOUND: &str = "
+    elementclass In {
+      input -> c :: Classifier(12/0800, -);
+      c[0] -> Strip(14) -> CheckIPHeader -> output;
+      c[1] -> Discard;
+    }
+    encap :: EtherEncap(0x0800, 02:00:00:00:00:0a, 02:00:00:00:00:0b) -> ToDevice(b);
+    hop :: DecIPTTL -> encap; // an open output 1
+    FromDevice(a) -> In -> hop;";
+
+// Packets to port 22 are denied.
+const FILTER: &str = "FromDevice(a) -> Classifier(12/0800) -> Strip(14) -> CheckIPHeader
+    -> IPFilter(deny dst port 22, allow all)
+    -> EtherEncap(0x0800, 02:00:00:00:00:0a, 02:00:00:00:00:0b) -> ToDevice(b);";
+
 // A TCP packet from 10.0.0.5:5000 to 198.51.100.9:80 with the wrong checksum 1234, and 6 bytes of zero
 // behind it.
 const PADDED: [u8; 60] = [
@@ -117,6 +133,31 @@ fn frames_are_written_as_the_chain_sends_them(rt: HostRuntime) -> Result<(), Fai
         done,
         &[0, 1, 2],
         &[&HEADER, &head(1, 46), &ETHERNET, &one_hop[14..]],
+    )?;
+
+    sends(
+        &rt,
+        COMPOUND,
+        &[&HEADER, &head(1, 46), &two_hops, &head(2, 42), &ARP],
+        done,
+        &[0, 1],
+        &[&HEADER, &head(1, 46), &ETHERNET, &one_hop[14..]],
+    )?;
+
+    // A filter looks at no port of a later fragment.
+    let mut to_port_22 = UDP;
+    to_port_22[36] = 0;
+    to_port_22[37] = 22;
+    let mut fragment = to_port_22;
+    fragment[21] = 1;
+    fragment[25] = 0x8a;
+    sends(
+        &rt,
+        FILTER,
+        &[&HEADER, &head(1, 46), &fragment, &head(2, 46), &to_port_22],
+        done,
+        &[0, 1],
+        &[&HEADER, &head(1, 46), &ETHERNET, &fragment[14..]],
     )?;
 
     // Frames stay in their order, whatever their times.

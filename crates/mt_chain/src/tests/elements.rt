@@ -2,7 +2,7 @@
 
 use super::{ARP, FRAGMENT, PADDED, UDP, comes_out, notes_behind};
 use crate::step::{Ending, Exit};
-use mt_elements::{Clause, End, Kind, Patterns};
+use mt_kinds::{Clause, End, Kind, Patterns};
 use mt_packet::{Cause, Layer};
 use std::alloc::{AllocError, Global};
 

@@ -23,5 +23,5 @@ returns-clause-exact g c =
 
 pub returns-clause-complete : goal.returns-clause-complete
 returns-clause-complete g c =
-    λ none answer is. complete (map string_bytes c.args.words.now) (state_of g.F.Files.held g.F.Files.written g.F.Files.read_faults g.F.Files.write_faults c.args.files.now) (state_of g.F.Files.held g.F.Files.written g.F.Files.read_faults g.F.Files.write_faults c.run-ended.new.files) (order_of c.new.result) c.new.result.fault answer
-    (moved (map string_bytes c.args.words.now) (state_of g.F.Files.held g.F.Files.written g.F.Files.read_faults g.F.Files.write_faults c.args.files.now) (state_of g.F.Files.held g.F.Files.written g.F.Files.read_faults g.F.Files.write_faults c.run-ended.new.files) _ _ _ _ c.new.ensures.fault c.new.ensures.order c.run-ended.ensures.run) none is
+    λ none. complete (map string_bytes c.args.words.now) (state_of g.F.Files.held g.F.Files.written g.F.Files.read_faults g.F.Files.write_faults c.args.files.now) (state_of g.F.Files.held g.F.Files.written g.F.Files.read_faults g.F.Files.write_faults c.run-ended.new.files) (order_of c.new.result) c.new.result.fault
+    (moved (map string_bytes c.args.words.now) (state_of g.F.Files.held g.F.Files.written g.F.Files.read_faults g.F.Files.write_faults c.args.files.now) (state_of g.F.Files.held g.F.Files.written g.F.Files.read_faults g.F.Files.write_faults c.run-ended.new.files) _ _ _ _ c.new.ensures.fault c.new.ensures.order c.run-ended.ensures.run) none

@@ -117,3 +117,6 @@ returns-clause-device g c =
     let s1 : State = state_of g.F.Files.held g.F.Files.written g.F.Files.read_faults g.F.Files.write_faults c.read_chain.new.files in
     let read1 : HasRead (view c.in-Some.command).chain s0 s1 = record { other_files = c.read_chain.ensures.other_files; written = c.read_chain.ensures.written; read_faults = c.read_chain.ensures.read_faults; write_faults = c.read_chain.ensures.write_faults } in
     inr (view c.in-Some.command, c.in-Ok.chain, at_chain words (view c.in-Some.command) c.in-Ok.chain s0 s1 s1 s1 s1 c.args.order.now.items c.in-Some.ensures.value c.in-Some.ensures.distinct c.in-Ok.ensures.ok read1, c.output_device-device.ensures)
+
+pub serve-requires-clause-simple : goal.serve-requires-clause-simple
+serve-requires-clause-simple g c = c.in-Ok.ensures.ok.0

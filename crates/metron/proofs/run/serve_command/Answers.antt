@@ -12,4 +12,4 @@ pub returns-clause-exact : goal.returns-clause-exact
 returns-clause-exact g c = exact _ _ _ _ _ (moved _ _ _ _ _ _ _ c.new.ensures.fault c.new.ensures.order c.run_buffered-fault.ensures)
 
 pub returns-clause-complete : goal.returns-clause-complete
-returns-clause-complete g c = λ none answer is. complete _ _ _ _ _ answer (moved _ _ _ _ _ _ _ c.new.ensures.fault c.new.ensures.order c.run_buffered-fault.ensures) none is
+returns-clause-complete g c = λ none. complete _ _ _ _ _ (moved _ _ _ _ _ _ _ c.new.ensures.fault c.new.ensures.order c.run_buffered-fault.ensures) none

@@ -1,9 +1,11 @@
-use Rattle.std.proofs.Common.{refl, sym, ◌∙◌, ap, subst}
+use Rattle.std.proofs.Common.{refl, sym, ◌∙◌, ap, subst, arith}
 use Rattle.std.specs.Vec.Iter.{into_iter_items}
 use Rattle.mt_io.specs.Files.{Gains}
 use Rattle.mt_io.specs.Copy.{GainsFront}
 use Rattle.mt_io.specs.Laws.{same_but_twice, same_twice, never_fell_twice}
-use Rattle.mt_chain.specs.Run.{IsThere, entry_of}
+use Rattle.metron.proofs.Simple.{one_entry, stateless}
+use Rattle.mt_elements.specs.ChainState.{entry_of}
+use Rattle.mt_chain.specs.Run.{IsThere}
 use Rattle.mt_lists.proofs.Iterated.{with_rest, with_one, at_end}
 use Rattle.metron.proofs.Texts.{counted_more, begun, broken_at_header, only_header, stopped_at, one_served, broken_at, all_served}
 use Rattle.metron.proofs.serve.serve.Goals as goal
@@ -36,7 +38,10 @@ returns-in-Err-push-clause-err g c =
     c.in-Err-push.ensures.items c.loop-stamp.invariant.served
 
 pub serve_one-requires-clause-known : goal.serve_one-requires-clause-known
-serve_one-requires-clause-known g c = subst (λ device. IsThere (entry_of c.args.chain.now device)) (sym (ap (λ p. p.device) c.new-packet.ensures)) (c.device_1_has_an_entry.ensures c.args.chain.now c.is_accepted.ensures)
+serve_one-requires-clause-known g c = subst (λ device. IsThere (entry_of c.args.chain.now device)) (sym (ap (λ p. p.device) c.new-packet.ensures)) (c.devices_have_entries.ensures c.args.chain.now 1 c.is_accepted.ensures.numbered (omega arith) (let one = one_entry c.args.chain.now c.requires.simple in omega (arith, one)))
+
+pub serve_one-requires-clause-stateless : goal.serve_one-requires-clause-stateless
+serve_one-requires-clause-stateless g c = stateless c.args.chain.now c.requires.simple
 
 pub returns-in-Err-serve_one-clause-err : goal.returns-in-Err-serve_one-clause-err
 returns-in-Err-serve_one-clause-err g c =

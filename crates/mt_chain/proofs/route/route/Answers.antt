@@ -1,6 +1,6 @@
 use Rattle.std.proofs.Common.{sym, subst}
 use Rattle.std.specs.Prelude.{Option}
-use Rattle.mt_elements.specs.declared.hop.Hop.{Hop}
+use Rattle.mt_kinds.specs.declared.hop.Hop.{Hop}
 use Rattle.mt_chain.specs.Route.{IsRoute}
 use Rattle.mt_chain.proofs.Longest.{is_route}
 use Rattle.mt_chain.proofs.route.route.Goals as goal

@@ -1,5 +1,0 @@
-use Rattle.mt_elements.proofs.ArgumentsSpelled.{hop_spelled}
-use Rattle.mt_elements.proofs.laws.hops_are_spelled.Goals as goal
-
-pub returns : goal.returns
-returns c = hop_spelled

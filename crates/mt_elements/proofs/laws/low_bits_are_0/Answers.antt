@@ -1,5 +1,0 @@
-use Rattle.mt_elements.proofs.ArgumentsSpelled.{low_bits}
-use Rattle.mt_elements.proofs.laws.low_bits_are_0.Goals as goal
-
-pub returns : goal.returns
-returns c = low_bits

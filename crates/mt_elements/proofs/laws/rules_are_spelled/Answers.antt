@@ -1,5 +1,0 @@
-use Rattle.mt_elements.proofs.ArgumentsSpelled.{rule_spelled}
-use Rattle.mt_elements.proofs.laws.rules_are_spelled.Goals as goal
-
-pub returns : goal.returns
-returns c = rule_spelled

@@ -1,0 +1,13 @@
+pub mod ArgumentSpelling
+pub mod Arguments
+pub mod Classes
+pub mod Descriptions
+pub mod Filters
+pub mod Layers
+pub mod Outputs
+pub mod Patterns
+pub mod Ports
+pub mod RewriterSpelling
+pub mod Rewriters
+pub mod Routes
+pub mod Written
