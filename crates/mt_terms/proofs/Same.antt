@@ -1,7 +1,8 @@
 -- Equality decides sameness of plain forms: of terms, of writes, of trees.
-use Rattle.std.proofs.Common.{◌≡◌, ℕ, Bool, true, false, ◌==◌, ◌&&◌, List, [], ◌∷◌, refl, ap, sym, ◌∙◌, eq-eqb, Box, Global}
+use Rattle.std.proofs.Common.{◌≡◌, ℕ, Bool, true, false, ◌==◌, ◌&&◌, List, [], ◌∷◌, Option, Some, None, refl, ap, sym, ◌∙◌, eq-eqb, Box, Global}
 use Rattle.std.proofs.lemmas.Bool.{eqb-true}
 use Rattle.std.specs.Bool.{Decides}
+use Rattle.std.specs.Option.{option_eq}
 use Rattle.std.specs.Cmp.Lexicographic.{pointwise}
 use mathlib.Core.Bool.{beq}
 use denote.Enum.Bare.{sameb, same_true, true_same}
@@ -128,17 +129,25 @@ decides_writes (v ∷ vs) (w ∷ ws) =
     (λ (e : write_form v ∷ write_forms vs ≡ write_form w ∷ write_forms ws). (let first : write_form v ≡ write_form w = cc in let rest : write_forms vs ≡ write_forms ws = cc in (first, rest)))
     (both _ _ (decides_write v w) (decides_writes vs ws))
 
-rewrite_of : Bool → List WriteForm → RewriteForm
-rewrite_of trim writes = record { trim = trim; writes = writes }
+tags : (t u : Option ℕ) → Decides (option_eq (λ (m n : ℕ). m == n) t u) (t ≡ u)
+tags None None = (λ e. refl, λ e. refl)
+tags None (Some n) = never (λ (e : None ≡ Some n). cc)
+tags (Some m) None = never (λ (e : Some m ≡ None). cc)
+tags (Some m) (Some n) = means _ (λ e. ap Some e) (λ (e : Some m ≡ Some n). (let same : m ≡ n = cc in same)) (numbers m n)
 
-rewrites_same : (r s : RewriteForm) → (r.trim ≡ s.trim) × (r.writes ≡ s.writes) → r ≡ s
+rewrite_of : Bool → Bool → Option ℕ → List WriteForm → RewriteForm
+rewrite_of trim untag tag writes = record { trim = trim; untag = untag; tag = tag; writes = writes }
+
+rewrites_same : (r s : RewriteForm) → (r.trim ≡ s.trim) × ((r.untag ≡ s.untag) × ((r.tag ≡ s.tag) × (r.writes ≡ s.writes))) → r ≡ s
 unfolding rewrite_of
-rewrites_same r s e = ap (λ t. rewrite_of t r.writes) e.0 ∙ ap (rewrite_of s.trim) e.1
+rewrites_same r s e =
+    ap (λ t. rewrite_of t r.untag r.tag r.writes) e.0 ∙ (ap (λ u. rewrite_of s.trim u r.tag r.writes) e.1.0 ∙ (ap (λ t. rewrite_of s.trim s.untag t r.writes) e.1.1.0 ∙ ap (rewrite_of s.trim s.untag s.tag) e.1.1.1))
 
 pub decides_rewrites : (r s : Rewrite) → Decides (rewritten.ghosts.eq r s) (rewrite_form r ≡ rewrite_form s)
 decides_rewrites r s =
-    means _ (λ e. rewrites_same (rewrite_form r) (rewrite_form s) e) (λ e. (ap (λ (x : RewriteForm). x.trim) e, ap (λ (x : RewriteForm). x.writes) e))
-    (both _ _ (bools r.trim s.trim) (decides_writes r.writes s.writes))
+    means _ (λ e. rewrites_same (rewrite_form r) (rewrite_form s) e)
+    (λ e. (ap (λ (x : RewriteForm). x.trim) e, (ap (λ (x : RewriteForm). x.untag) e, (ap (λ (x : RewriteForm). x.tag) e, ap (λ (x : RewriteForm). x.writes) e))))
+    (both _ _ (bools r.trim s.trim) (both _ _ (bools r.untag s.untag) (both _ _ (tags r.tag s.tag) (decides_writes r.writes s.writes))))
 
 op_of : ℕ → ℕ → TermForm → TermForm → TermForm → TermForm → OpForm
 op_of element input sa sp da dp = record { element = element; input = input; sa = sa; sp = sp; da = da; dp = dp }

@@ -1,5 +1,5 @@
 -- Trees in their plain form: what a chain does with the packets of a class.
-use Rattle.std.specs.Prelude.{ℕ, Bool, List, [], ◌∷◌}
+use Rattle.std.specs.Prelude.{ℕ, Bool, false, List, [], ◌∷◌, Option, None}
 use Rattle.mt_packet.specs.declared.cause.Cause.{Cause}
 use Rattle.mt_packet.specs.declared.span.Span.{Span}
 use Rattle.mt_terms.specs.declared.tree.OpCode.{OpCode}
@@ -9,10 +9,17 @@ use Rattle.mt_terms.specs.declared.tree.Tree.TheOpen.{Tree-F}
 use Rattle.mt_terms.specs.Terms.{TermForm, term_form}
 use Rattle.mt_terms.specs.Writes.{WriteForm, write_forms}
 
--- whether the packet is checked first, and the writes by ascending field
+-- whether the packet is checked, whether the frame's VLAN tag is taken off, the VLAN identifier of the tag that is
+-- put on, where one is, and the writes by ascending field
 pub record RewriteForm : Type 0 where
   pub trim : Bool
+  pub untag : Bool
+  pub tag : Option ℕ
   pub writes : List WriteForm
+
+-- none of the four
+abbrev pub empty_rewrite : RewriteForm
+empty_rewrite = record { trim = false; untag = false; tag = None; writes = [] }
 
 -- the rewriter and its input, and the four parts of the flow that arrives there
 pub record OpForm : Type 0 where
@@ -37,7 +44,7 @@ mutual
     branch : ℕ → TreeForm → BranchForms → BranchForms
 
 abbrev pub rewrite_form : Rewrite → RewriteForm
-rewrite_form rewrite = record { trim = rewrite.trim; writes = write_forms rewrite.writes }
+rewrite_form rewrite = record { trim = rewrite.trim; untag = rewrite.untag; tag = rewrite.tag; writes = write_forms rewrite.writes }
 
 abbrev pub op_form : OpCode → OpForm
 op_form code = record {

@@ -39,6 +39,8 @@ impl Rewrite {
     {
         Ok(Rewrite {
             trim: self.trim,
+            untag: self.untag,
+            tag: self.tag,
             writes: self.writes.copy(alloc)?,
         })
     }

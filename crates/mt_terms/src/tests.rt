@@ -140,9 +140,15 @@ fn writes_stand_by_field(rt: HostRuntime) -> Result<(), AllocError> {
     Ok(())
 }
 
-/// A tree that sends what it rewrites to a device.
-fn leaf(trim: bool, writes: WriteList, device: u32) -> Tree {
-    Tree::Leaf(Rewrite { trim, writes }, device)
+/// A tree that sends what it rewrites to device 1.
+fn leaf(trim: bool, untag: bool, tag: Option<u16>, writes: WriteList) -> Tree {
+    let rewrite = Rewrite {
+        trim,
+        untag,
+        tag,
+        writes,
+    };
+    Tree::Leaf(rewrite, 1)
 }
 
 /// Branches that drop for these causes, by output.
@@ -191,16 +197,43 @@ fn are_ascending(alloc: Global, trees: &[Tree]) -> Result<bool, AllocError> {
     Ok(true)
 }
 
+/// Whether of the leaves among these trees the one in front, and no other, has an empty rewrite.
+fn first_alone_is_empty(trees: &[Tree]) -> bool {
+    for (place, tree) in trees.iter().enumerate() {
+        if let Tree::Leaf(rewrite, _) = tree {
+            if rewrite.is_empty() != (place == 0) {
+                return false;
+            }
+        }
+    }
+    true
+}
+
 #[test]
 fn trees_are_copied_and_ordered(rt: HostRuntime) -> Result<(), AllocError> {
     let alloc = rt.alloc();
     let none = || WriteList::new(alloc);
     let lower = written(alloc, &[(Field::Ttl, 63)])?;
+    let device_2 = Tree::Leaf(
+        Rewrite {
+            trim: true,
+            untag: true,
+            tag: Some(1),
+            writes: none(),
+        },
+        2,
+    );
     let trees = vec![in alloc;
-        leaf(false, none(), 1),
-        leaf(false, none(), 2),
-        leaf(false, lower, 1),
-        leaf(true, none(), 1),
+        leaf(false, false, None, none()),
+        leaf(false, false, None, lower),
+        leaf(false, false, Some(0), none()),
+        leaf(false, false, Some(1), none()),
+        leaf(false, true, None, none()),
+        leaf(false, true, Some(0), none()),
+        leaf(true, false, None, none()),
+        leaf(true, false, Some(4094), none()),
+        leaf(true, true, Some(1), none()),
+        device_2,
         Tree::Drop(Cause::Discarded),
         Tree::Drop(Cause::Ttl),
         test(alloc, Cause::Discarded, Cause::Ttl)?,
@@ -210,5 +243,6 @@ fn trees_are_copied_and_ordered(rt: HostRuntime) -> Result<(), AllocError> {
         passage(alloc, &[(0, Cause::Ttl)])?,
     ]?;
     assert!(rt; are_ascending(alloc, &trees)?);
+    assert!(rt; first_alone_is_empty(&trees));
     Ok(())
 }
