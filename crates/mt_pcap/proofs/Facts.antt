@@ -1,5 +1,5 @@
 -- What is true of each capture that is read.
-use Rattle.std.proofs.Common.{◌≡◌, ℕ, zero, suc, ◌+◌, ◌*◌, ◌/◌, ◌^◌, ◌<◌, ◌≤◌, inl, inr, List, length, drop, Option, Some, None, Result, Ok, Err, All, refl, sym, ap, subst, ◌∙◌, arith}
+use Rattle.std.proofs.Common.{◌≡◌, ℕ, zero, suc, ◌+◌, ◌*◌, ◌/◌, ◌^◌, ◌<◌, ◌≤◌, inl, inr, List, length, drop, Option, Some, None, Result, Ok, Err, false, All, refl, sym, ap, subst, ◌∙◌, arith}
 use Rattle.std.proofs.lemmas.Bool.{cases_lt}
 use Rattle.std.proofs.lemmas.Nat.{div-mul-add}
 use Rattle.std.proofs.lemmas.List.{length-drop}
@@ -10,7 +10,7 @@ use Rattle.mt_pcap.specs.declared.fault.PcapFault.TheVariants.{NotPcap, WrongLin
 use Rattle.mt_pcap.specs.Format.{second, longest}
 use Rattle.mt_pcap.specs.Capture.{Capture, record_at, header_of, ended, onwards, records_of, all_records, with_header, capture_of}
 use Rattle.mt_pcap.specs.Laws.{IsWritable}
-use Rattle.mt_pcap.specs.Capture.{IsOfBytes}
+use Rattle.mt_pcap.specs.Capture.{IsOfBytes, is_header_fault}
 use Rattle.mt_pcap.proofs.Headers.{too_short, unknown, other_link, ethernet, header_case, link_in}
 use Rattle.mt_pcap.proofs.Numbers.{IsBytes, IsBytes-drop, number-lt}
 use Rattle.mt_pcap.proofs.Records.{cut_head, bad, cut_data, whole, case_of, Took, took, at_zero, at_end, at_some, captured, fraction, seconds}
@@ -86,7 +86,37 @@ pub capture_of-sound : (bytes : List ℕ) → IsBytes bytes → Sound bytes (cap
 unfolding capture_of
 capture_of-sound bytes fits = with_header-sound bytes (header_of bytes) refl fits
 
--- the same of what is returned
+-- ---- records end with no fault of a header
+
+plain_fault : (form : Form) (offset : ℕ) (bytes : List ℕ) (fault : PcapFault) → record_at form offset bytes ≡ Err fault → is_header_fault (Some fault) ≡ false
+plain_fault form offset bytes fault read =
+    elim (case_of form offset bytes) [
+      | cut_head short e ↦ let is : fault ≡ Torn offset = cc in rw is refl
+      | bad long why e ↦ let is : fault ≡ BadRecord offset = cc in rw is refl
+      | cut_data long early fits short e ↦ let is : fault ≡ Torn offset = cc in rw is refl
+      | whole long early fits enough e ↦ absurd cc
+    ]
+
+plain_onwards : (most : ℕ) (form : Form) (offset : ℕ) (bytes : List ℕ) (r : Result ((ℕ × List ℕ) × List ℕ) PcapFault) → record_at form offset bytes ≡ r
+    → ((offset : ℕ) (rest : List ℕ) → is_header_fault (records_of most form offset rest).end ≡ false)
+    → is_header_fault (onwards r (λ x. records_of most form (offset + 16 + length x.0.1) x.1)).end ≡ false
+plain_onwards most form offset bytes (Err fault) read others = plain_fault form offset bytes fault read
+plain_onwards most form offset bytes (Ok x) read others = others (offset + 16 + length x.0.1) x.1
+
+plain_end : (most : ℕ) (form : Form) (offset : ℕ) (bytes : List ℕ) → is_header_fault (records_of most form offset bytes).end ≡ false
+plain_end zero form offset bytes = ap (λ (c : Capture). is_header_fault c.end) (at_zero form offset bytes)
+plain_end (suc most) form offset bytes =
+    elim (cases_lt 0 (length bytes)) [
+      | inl some ↦ ap (λ (c : Capture). is_header_fault c.end) (at_some most form offset bytes some) ∙ plain_onwards most form offset bytes (record_at form offset bytes) refl (plain_end most form)
+      | inr none ↦ ap (λ (c : Capture). is_header_fault c.end) (at_end (suc most) form offset bytes (omega arith))
+    ]
+
+pub no_header_fault : (form : Form) (offset : ℕ) (bytes : List ℕ) → is_header_fault (all_records form offset bytes).end ≡ false
+unfolding all_records
+no_header_fault form offset bytes = plain_end (length bytes) form offset bytes
+
+-- ---- the same of what is returned
+
 pub seconds_fit : (bytes : List ℕ) (records : List (ℕ × List ℕ)) → IsBytes bytes → records ≡ (capture_of bytes).records → All (λ r. r.0 / second < 2 ^ 32) records
 seconds_fit bytes records fits is =
     All-same (λ r. r.0 / second < 2 ^ 32) records (capture_of bytes).records is (All-weaker IsWritable (λ r. r.0 / second < 2 ^ 32) (λ r w. w.0) (capture_of bytes).records (capture_of-sound bytes fits).writable)

@@ -16,3 +16,9 @@ pub mod Streams
 pub mod MergeStreams
 pub mod Apart
 pub mod ToEnd
+pub mod Ends
+pub mod Opening
+pub mod Goes
+pub mod AllGoes
+pub mod Broken
+pub mod SoFar

@@ -97,7 +97,7 @@ set_same left i y c there =
     slice_get-get_or (slice_set left i y) i y within ∙ ap Some (get_or-set_same left i y y lt)
 
 -- the first record and those behind it are all
-first_and_behind : (c : Capture) (r : ℕ × List ℕ) → first_of c ≡ Some r → c.records ≡ r ∷ (behind c).records
+pub first_and_behind : (c : Capture) (r : ℕ × List ℕ) → first_of c ≡ Some r → c.records ≡ r ∷ (behind c).records
 first_and_behind c r first = by_records c.records r first
   where
     by_records : (records : List (ℕ × List ℕ)) (r : ℕ × List ℕ) → slice_get records 0 ≡ Some r → records ≡ r ∷ drop 1 records
@@ -202,12 +202,12 @@ split_at_limit left k c there = record {
 }
 
 -- the frames of a device with one more in front, of this device and of another
-own_frame : (device : ℕ) (x : Stamped) (frames : List Stamped) → x.device ≡ device → of_device device (x ∷ frames) ≡ (x.stamp, x.frame) ∷ of_device device frames
+pub own_frame : (device : ℕ) (x : Stamped) (frames : List Stamped) → x.device ≡ device → of_device device (x ∷ frames) ≡ (x.stamp, x.frame) ∷ of_device device frames
 own_frame device x frames is =
     let t : (x.device == device) ≡ true = eq-eqb x.device device is in
     ap (λ b. map (λ (f : Stamped). (f.stamp, f.frame)) (cond b (x ∷ filter (λ (f : Stamped). f.device == device) frames) (filter (λ (f : Stamped). f.device == device) frames))) t
 
-other_frame : (device : ℕ) (x : Stamped) (frames : List Stamped) → x.device ≢ device → of_device device (x ∷ frames) ≡ of_device device frames
+pub other_frame : (device : ℕ) (x : Stamped) (frames : List Stamped) → x.device ≢ device → of_device device (x ∷ frames) ≡ of_device device frames
 other_frame device x frames is =
     let t : (x.device == device) ≡ false = ne_eqb x.device device is in
     ap (λ b. map (λ (f : Stamped). (f.stamp, f.frame)) (cond b (x ∷ filter (λ (f : Stamped). f.device == device) frames) (filter (λ (f : Stamped). f.device == device) frames))) t

@@ -64,7 +64,7 @@ step_gives (Some fault) some next e = absurd cc
 step_gives None None next e = absurd cc
 step_gives None (Some other) next e = (refl, cc)
 
-abbrev taken_from : List Capture → ℕ → Capture → ℕ × List ℕ → Taken
+abbrev pub taken_from : List Capture → ℕ → Capture → ℕ × List ℕ → Taken
 taken_from left index c r = record { device = index + 1; given = r; left = slice_set left index (behind c) }
 
 pub gives_next : (left : List Capture) (next : Taken) → step left ≡ gives next → Gives left next
@@ -132,7 +132,7 @@ empty_of c none = by_records c.records none
     by_records [] none = refl
     by_records (r ∷ records) none = absurd cc
 
-taken_some : (left : List Capture) (index : ℕ) (c : Capture) (r : ℕ × List ℕ) → next_index left ≡ Some index → slice_get left index ≡ Some c → first_of c ≡ Some r → taken left ≡ Some (taken_from left index c r)
+pub taken_some : (left : List Capture) (index : ℕ) (c : Capture) (r : ℕ × List ℕ) → next_index left ≡ Some index → slice_get left index ≡ Some c → first_of c ≡ Some r → taken left ≡ Some (taken_from left index c r)
 unfolding taken
 taken_some left index c r chosen there first =
     ap (option_and_then (λ p. option_and_then (λ d. option_map (taken_from left p d) (first_of d)) (slice_get left p))) chosen

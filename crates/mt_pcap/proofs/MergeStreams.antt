@@ -23,12 +23,12 @@ use Rattle.mt_pcap.proofs.MergeSteps.{best_to}
 
 -- ---- elements of lists
 
-get-set_same : {X : Type 0} (xs : List X) (k : ℕ) (x y : X) → slice_get xs k ≡ Some x → slice_get (set xs k y) k ≡ Some y
+pub get-set_same : {X : Type 0} (xs : List X) (k : ℕ) (x y : X) → slice_get xs k ≡ Some x → slice_get (set xs k y) k ≡ Some y
 get-set_same [] k x y there = absurd (none-some x there)
 get-set_same (z ∷ xs) zero x y there = refl
 get-set_same (z ∷ xs) (suc k) x y there = get-set_same xs k x y there
 
-get-set_other : {X : Type 0} (xs : List X) (k j : ℕ) (y : X) → j ≢ k → slice_get (set xs k y) j ≡ slice_get xs j
+pub get-set_other : {X : Type 0} (xs : List X) (k j : ℕ) (y : X) → j ≢ k → slice_get (set xs k y) j ≡ slice_get xs j
 get-set_other [] k j y other = refl
 get-set_other (z ∷ xs) zero zero y other = absurd (other refl)
 get-set_other (z ∷ xs) zero (suc j) y other = refl
@@ -118,7 +118,7 @@ ready_left held s c ready is = by_head s.head s.reader.standing (held s.reader.n
 
 -- ---- all of them
 
-names_same : (xs : List Source) (j k : ℕ) (x s : Source) → AreApart (names_of xs) → slice_get xs j ≡ Some x → slice_get xs k ≡ Some s → j ≢ k → x.reader.name ≢ s.reader.name
+pub names_same : (xs : List Source) (j k : ℕ) (x s : Source) → AreApart (names_of xs) → slice_get xs j ≡ Some x → slice_get xs k ≡ Some s → j ≢ k → x.reader.name ≢ s.reader.name
 names_same xs j k x s apart at_j at_k other same =
     other (apart j k s.reader.name
     (slice_get-map (λ (t : Source). t.reader.name) xs j ∙ ap (option_map (λ (t : Source). t.reader.name)) at_j ∙ ap (λ n. Some n) same)
@@ -166,7 +166,7 @@ no_source : Source
 no_source = record { reader = record { name = []; given = 0; standing = over None }; head = None }
 
 -- none of the first captures is at a fault
-none_at_fault : (held : List ℕ → Option (List ℕ)) (xs : List Source) (left : List Capture) (k : ℕ) → EachIs (left_in held) xs left → k ≤ length left
+pub none_at_fault : (held : List ℕ → Option (List ℕ)) (xs : List Source) (left : List Capture) (k : ℕ) → EachIs (left_in held) xs left → k ≤ length left
     → ((j : ℕ) (s : Source) → j < k → slice_get xs j ≡ Some s → IsReady s) → NoneBefore is_at_fault left k
 none_at_fault held xs left k each le ready j d lt =
     let long = each.long in
@@ -175,13 +175,13 @@ none_at_fault held xs left k each le ready j d lt =
     let at = each.at j s there in
     ap is_at_fault (get_or_from_slice_get left j at.0 d at.1) ∙ (ready_left held s at.0 (ready j s lt there) at.2).0
 
-met_at : (left : List Capture) (k : ℕ) (fault : PcapFault) → position is_at_fault left ≡ Some k → slice_get left k ≡ Some (ended (Some fault)) → fault_met left ≡ Some (k + 1, fault)
+pub met_at : (left : List Capture) (k : ℕ) (fault : PcapFault) → position is_at_fault left ≡ Some k → slice_get left k ≡ Some (ended (Some fault)) → fault_met left ≡ Some (k + 1, fault)
 unfolding fault_met
 met_at left k fault first there =
     ap (option_and_then (λ index. option_and_then (λ (c : Capture). option_map (λ (f : PcapFault). (index + 1, f)) c.end) (slice_get left index))) first
     ∙ ap (option_and_then (λ (c : Capture). option_map (λ (f : PcapFault). (k + 1, f)) c.end)) there
 
-met_none : (left : List Capture) → position is_at_fault left ≡ None → fault_met left ≡ None
+pub met_none : (left : List Capture) → position is_at_fault left ≡ None → fault_met left ≡ None
 unfolding fault_met
 met_none left none = ap (option_and_then (λ index. option_and_then (λ (c : Capture). option_map (λ (f : PcapFault). (index + 1, f)) c.end) (slice_get left index))) none
 
@@ -249,7 +249,7 @@ best_same one two i (Some b) same known =
       };
     }
 
-next_same : (one two : List Capture) → length one ≡ length two → ((k : ℕ) → stamp_at two k ≡ stamp_at one k) → next_index two ≡ next_index one
+pub next_same : (one two : List Capture) → length one ≡ length two → ((k : ℕ) → stamp_at two k ≡ stamp_at one k) → next_index two ≡ next_index one
 next_same one two long same = by_best (best_to one (length one)).0 (best_to one (length one)).1
   where
     by_best : (best : Option (ℕ × ℕ)) → Best one (length one) best → next_index two ≡ next_index one
@@ -400,7 +400,7 @@ gives_here held xs new device number r ready taken_so = by_left (all_left held x
 pub untouched_set : (old xs : List Source) (k : ℕ) (t : Source) → ((j : ℕ) → k ≤ j → slice_get xs j ≡ slice_get old j) → (j : ℕ) → k + 1 ≤ j → slice_get (set xs k t) j ≡ slice_get old j
 untouched_set old xs k t kept j le = get-set_other xs k j t (λ e. omega (arith, e, le)) ∙ kept j (omega arith)
 
-name_at : (xs : List Source) (k : ℕ) (s : Source) → slice_get xs k ≡ Some s → slice_get (names_of xs) k ≡ Some s.reader.name
+pub name_at : (xs : List Source) (k : ℕ) (s : Source) → slice_get xs k ≡ Some s → slice_get (names_of xs) k ≡ Some s.reader.name
 name_at xs k s there = slice_get-map (λ (t : Source). t.reader.name) xs k ∙ ap (option_map (λ (t : Source). t.reader.name)) there
 
 pub beside_more : (xs : List Source) (k : ℕ) (s : Source) (old middle new : List ℕ → Option (List ℕ)) → slice_get xs k ≡ Some s → IsSameBeside (names_of xs) old middle → IsSameBut s.reader.name middle new → IsSameBeside (names_of xs) old new
@@ -455,6 +455,10 @@ device_within xs new device r gone =
     let is = gone.device_is in
     (omega arith, omega arith)
 
+pub same_names : (readers : List ReaderState) → names_of (begun readers) ≡ map (λ (r : ReaderState). r.name) readers
+same_names [] = refl
+same_names (r ∷ readers) = ap (λ l. r.name ∷ l) (same_names readers)
+
 pub of_merge_begun : (readers : List ReaderState) → length readers ≤ 32 → AreApart (map (λ (r : ReaderState). r.name) readers) → ((k : ℕ) (r : ReaderState) → slice_get readers k ≡ Some r → r.given ≡ 0) → IsOfMerge (begun readers) 0
 of_merge_begun readers few apart none = record {
   few = omega (arith, few, length-map readers start);
@@ -467,7 +471,3 @@ of_merge_begun readers few apart none = record {
   where
     start : ReaderState → Source
     start r = record { reader = r; head = None }
-
-    same_names : (readers : List ReaderState) → names_of (begun readers) ≡ map (λ (r : ReaderState). r.name) readers
-    same_names [] = refl
-    same_names (r ∷ readers) = ap (λ l. r.name ∷ l) (same_names readers)

@@ -1,8 +1,9 @@
 -- Reading piece by piece: what was taken, and what is left.
 use Rattle.std.proofs.Common.{◌≡◌, ◌≢◌, ◌⊎◌, inl, inr, ℕ, ◌+◌, ◌-◌, ◌*◌, ◌/◌, ◌^◌, ◌<◌, ◌≤◌, ltb, leb, true, false, List, [], ◌++◌, length, take, drop, Option, Some, None, Result, Ok, Err, refl, sym, ap, subst, ◌∙◌, append_assoc, arith}
-use Rattle.std.specs.Prelude.{◌||◌, option_map, IfErr, IfOk}
+use Rattle.std.specs.Prelude.{◌||◌, option_map, IfErr, IfOk, IfSome}
 use Rattle.std.proofs.lemmas.Bool.{cases_lt, le-ltb, lt-leb, or_from, or_parts, leb-false, ltb-false}
 use Rattle.std.proofs.lemmas.List.{append-nil, length-append, length-drop, length-take, length-take-le, take-append-le, drop-append-le, take_at, drop_at, nil_from_length}
+use Rattle.std.proofs.lemmas.Option.{same_Some}
 use Rattle.std.proofs.lemmas.Nat.{div-mul-add}
 use Rattle.std.proofs.Math.Seq.{take-append-add}
 use borrow.Rule.Slice.PartMut.{put_mid, post_of}
@@ -18,9 +19,10 @@ use Rattle.mt_pcap.specs.declared.fault.PcapFault.TheVariants.{ReadFault, NoMemo
 use Rattle.mt_pcap.specs.declared.reader.Progress.{Progress}
 use Rattle.mt_pcap.specs.declared.reader.Progress.TheVariants.{Record, Data, Over}
 use Rattle.mt_pcap.specs.Format.{number, second, longest}
-use Rattle.mt_pcap.specs.Capture.{Capture, IsOfBytes, ended, form_in, form_of, linked, header_of, with_header, all_records, record_at, capture_of}
-use Rattle.mt_pcap.specs.Stream.{within, left_at, in_front, IsLeft, HasLength, HasHead, IsCut, at_end}
+use Rattle.mt_pcap.specs.Capture.{Capture, IsOfBytes, is_header_fault, ended, form_in, form_of, linked, header_of, with_header, all_records, record_at, capture_of}
+use Rattle.mt_pcap.specs.Stream.{within, left_at, in_front, Standing, TakesSo, HasBegun, HasRead, HasGoneOn, HasNoRecord, IsLeft, HasLength, HasHead, IsCut, at_end}
 use Rattle.mt_pcap.specs.Standings.{standing_of}
+use Rattle.mt_pcap.proofs.Facts.{no_header_fault}
 use Rattle.mt_pcap.proofs.Headers.{too_short, unknown, other_link, ethernet, header_case, link_in}
 use Rattle.mt_pcap.proofs.Records.{seconds, fraction, captured, cut_head, bad, cut_data, whole, case_of, reads_whole, at_cut_head, at_cut_data, records-end, records-fault, records-next}
 
@@ -75,6 +77,29 @@ number_at : (order : Order) (n : ℕ) (xs ys : List ℕ) → n + 4 ≤ length xs
 number_at order n xs ys long =
     ap (number order) (drop-append-le n xs ys (omega arith)) ∙ number_more order (drop n xs) ys (omega (arith, length-drop n xs))
 
+-- ---- what was taken
+
+-- no byte was taken
+pub nothing_so : (before after : Option (List ℕ)) (P : List ℕ → Type 0) → after ≡ before → P [] → TakesSo before after P
+nothing_so before after P same p = ([], takes_nothing before after same, p)
+
+-- what was taken by two calls
+pub takes_so_twice : (before now after : Option (List ℕ)) (P Q R : List ℕ → Type 0) → TakesSo before now P → TakesSo now after Q → ((a b : List ℕ) → P a → Q b → R (a ++ b)) → TakesSo before after R
+takes_so_twice before now after P Q R one two both = (one.0 ++ two.0, takes_twice before now after one.0 two.0 one.1 two.1, both one.0 two.0 one.2 two.2)
+
+-- a piece that is not full was taken
+pub short_so_far : (most : ℕ) (buf : List ℕ) (count : ℕ) (before now after : Option (List ℕ)) → count < most → Takes before (take count buf) now → after ≡ now → TakesSo before after (λ bytes. length bytes < most)
+short_so_far most buf count before now after lt taken same =
+    (take count buf, subst (λ o. Takes before (take count buf) o) (sym same) taken, omega (arith, length-take count buf))
+
+-- the last bytes of a record
+pub read_on : (old middle new : Standing) (a b : List ℕ) (r : ℕ × List ℕ) → HasGoneOn old a middle → HasRead middle b r new → HasRead old (a ++ b) r new
+read_on old middle new a b r one two = (two.0, λ behind. ap (left_at old) (append_assoc a b behind) ∙ one (b ++ behind) ∙ two.1 behind)
+
+-- and too few of them
+pub cut_on : (old middle : Standing) (a b : List ℕ) → HasGoneOn old a middle → HasNoRecord middle b → HasNoRecord old (a ++ b)
+cut_on old middle a b one none = ap (λ (c : Capture). c.records) (one b) ∙ none
+
 -- ---- the header
 
 form_in_more : (order : Order) (xs ys : List ℕ) → 4 ≤ length xs → form_in order (xs ++ ys) ≡ form_in order xs
@@ -120,6 +145,17 @@ header_left form header (Some all) after is long taken =
     ∙ ap (λ (l : List ℕ). Some (all_records form 24 l)) (sym behind)
     ∙ ap (λ (c : Capture). Some c) (sym (capture_with all (Ok form) read))
 
+pub header_begun : (r : Result Form PcapFault) (header : List ℕ) (before after : Option (List ℕ)) → r ≡ header_of header → IfOk r (λ _. 24 ≤ length header) → length header ≤ 24 → Takes before header after
+    → IfOk r (λ form. TakesSo before after (λ bytes. HasBegun bytes (within form 24 [])))
+header_begun (Ok form) header before after is long le taken =
+    (header, taken, (tt, λ behind. same_Some (left_at (within form 24 []) behind) (capture_of (header ++ behind)) (header_left form header (Some (header ++ behind)) (Some behind) (sym is) (omega arith) (behind, refl, refl))))
+header_begun (Err fault) header before after is long le taken = tt
+
+-- what is left behind a header ends with no fault of one
+pub begins_well : (form : Form) (held : Option (List ℕ)) → IfSome (option_map (left_at (within form 24 [])) held) (λ c. is_header_fault c.end ≡ false)
+begins_well form None = tt
+begins_well form (Some bytes) = no_header_fault form 24 bytes
+
 pub header_refused : (fault : PcapFault) (header : List ℕ) (before after : Option (List ℕ)) → header_of header ≡ Err fault → Takes before header after → (length header < 24 → HasLength (length header) before)
     → IsLeft (option_map capture_of before) (ended (Some fault))
 header_refused fault header None after is taken short = tt
@@ -135,7 +171,21 @@ header_fault header fault read =
       | ethernet form long some one e ↦ absurd cc
     ]
 
+-- it is one of the header
+header_kind : (header : List ℕ) (fault : PcapFault) → header_of header ≡ Err fault → is_header_fault (Some fault) ≡ true
+header_kind header fault read =
+    elim (header_case header) [
+      | too_short short e ↦ let is : fault ≡ NotPcap = cc in rw is refl
+      | unknown long none e ↦ let is : fault ≡ NotPcap = cc in rw is refl
+      | other_link form long some other e ↦ let is : fault ≡ WrongLink (link_in form header) = cc in rw is refl
+      | ethernet form long some one e ↦ absurd cc
+    ]
+
 -- the same of the reading of a header
+pub header_of_kind : (r : Result Form PcapFault) (header : List ℕ) → r ≡ header_of header → IfErr r (λ fault. IsOfBytes (Some fault) → is_header_fault (Some fault) ≡ true)
+header_of_kind (Ok form) header is = tt
+header_of_kind (Err fault) header is = λ _. header_kind header fault (sym is)
+
 pub header_whole : (r : Result Form PcapFault) (header : List ℕ) (before after : Option (List ℕ)) → r ≡ header_of header → IfOk r (λ _. 24 ≤ length header) → length header ≤ 24 → Takes before header after
     → IfOk r (λ form. option_map (left_at (within form 24 [])) after ≡ option_map capture_of before)
 header_whole (Ok form) header before after is long le taken = header_left form header before after (sym is) (omega arith) taken
@@ -174,10 +224,21 @@ head_cut form offset fault (Some all) (inr torn) named =
     let cut = torn.1 in
     rw torn.0 (records-fault form offset all (Torn offset) cut.0 (at_cut_head form offset all cut.1))
 
+-- the bytes that were taken of a head hold no record
+pub cut_head_none : (form : Form) (offset : ℕ) (bytes : List ℕ) → length bytes < 16 → HasNoRecord (within form offset []) bytes
+cut_head_none form offset bytes short =
+    elim (cases_lt 0 (length bytes)) [
+      | inl some ↦ ap (λ (c : Capture). c.records) (records-fault form offset bytes (Torn offset) some (at_cut_head form offset bytes short))
+      | inr none ↦ ap (λ (l : List ℕ). (all_records form offset l).records) (nil_from_length bytes (omega arith)) ∙ ap (λ (c : Capture). c.records) (records-end form offset)
+    ]
+
 pub head_kept : (form : Form) (offset : ℕ) (progress : Progress) (head : List ℕ) → HasHead (standing_of form offset progress) head → standing_of form offset progress ≡ within form offset head
 head_kept form offset Record head is = ap (within form offset) is
 head_kept form offset (Data bytes) head is = ap (within form offset) is
 head_kept form offset (Over end) head is = absurd is
+
+pub head_stands : (form : Form) (offset : ℕ) (progress : Progress) (standing : Standing) (head : List ℕ) → standing_of form offset progress ≡ standing → HasHead standing head → standing ≡ within form offset head
+head_stands form offset progress standing head is has = sym is ∙ head_kept form offset progress head (subst (λ s. HasHead s head) (sym is) has)
 
 -- what is answered at the end is no record, and is the same of heads and of records
 abbrev pub ok : {X : Type 0} → Option X → Result (Option X) PcapFault
@@ -249,6 +310,11 @@ record_left form offset head bytes s f n (Some all) after told proper long taken
     ∙ ap (λ (c : Capture). Some c) (whole_in_front form offset head bytes taken.0 s f n told proper long)
     ∙ sym gone
 
+-- the same whatever is behind the record
+pub record_read : (form : Form) (offset : ℕ) (head bytes : List ℕ) (s f n : ℕ) (before after : Option (List ℕ)) → Told form head s f n → (leb second f || ltb longest n) ≡ false → length bytes ≡ n → Takes before bytes after
+    → TakesSo before after (λ bytes'. HasRead (within form offset head) bytes' (s * second + f, bytes) (within form (offset + (16 + length bytes)) []))
+record_read form offset head bytes s f n before after told proper long taken = (bytes, taken, (tt, λ behind. whole_in_front form offset head bytes behind s f n told proper long))
+
 -- a head that is not proper
 bad_at : (form : Form) (offset : ℕ) (bytes : List ℕ) → 16 ≤ length bytes → (leb second (fraction form bytes) || ltb longest (captured form bytes)) ≡ true → record_at form offset bytes ≡ Err (BadRecord offset)
 bad_at form offset bytes long improper =
@@ -278,6 +344,13 @@ data_cut form offset head s f n count (Some all) told proper short is =
     let fits : captured form (head ++ all) ≤ longest = rw (h.captured_is, ← told.captured_is) (ltb-false longest n p.1) in
     let cut : length (drop 16 (head ++ all)) < captured form (head ++ all) = rw (h.behind, h.captured_is, ← told.captured_is) (omega arith) in
     records-fault form offset (head ++ all) (Torn offset) (let l = h.long in omega arith) (at_cut_data form offset (head ++ all) h.long early fits cut)
+
+-- bytes behind a head that hold no record: none behind one that is not proper, and too few
+pub bad_head_none : (form : Form) (offset : ℕ) (head : List ℕ) (s f n : ℕ) → Told form head s f n → (leb second f || ltb longest n) ≡ true → HasNoRecord (within form offset head) []
+bad_head_none form offset head s f n told improper = ap (λ (c : Capture). c.records) (head_bad form offset head s f n (Some []) told improper)
+
+pub cut_data_none : (form : Form) (offset : ℕ) (head : List ℕ) (s f n : ℕ) (bytes : List ℕ) → Told form head s f n → (leb second f || ltb longest n) ≡ false → length bytes < n → HasNoRecord (within form offset head) bytes
+cut_data_none form offset head s f n bytes told proper short = ap (λ (c : Capture). c.records) (data_cut form offset head s f n (length bytes) (Some bytes) told proper short refl)
 
 -- the seconds of a time, and the length of a proper frame
 pub seconds_are : (s f n : ℕ) → (leb second f || ltb longest n) ≡ false → s < 2 ^ 32 → (s * second + f) / 1000000000 < 2 ^ 32

@@ -1,5 +1,5 @@
 -- Reading a capture from its first byte to its last: the records, and the first fault if any.
-use Rattle.std.specs.Prelude.{⊤, ℕ, zero, suc, ◌+◌, ◌*◌, ◌%◌, List, [], ◌∷◌, length, take, drop, Option, Some, None, Result, Ok, Err, nat_lt, nat_le, ◌==◌, ◌||◌, if◌then◌else◌}
+use Rattle.std.specs.Prelude.{⊤, ℕ, zero, suc, ◌+◌, ◌*◌, ◌%◌, List, [], ◌∷◌, length, take, drop, Option, Some, None, Result, Ok, Err, nat_lt, nat_le, Bool, true, false, ◌==◌, ◌||◌, if◌then◌else◌}
 use Rattle.mt_pcap.specs.declared.form.Order.{Order}
 use Rattle.mt_pcap.specs.declared.form.Order.TheVariants.{Big, Little}
 use Rattle.mt_pcap.specs.declared.form.Resolution.{Resolution}
@@ -25,6 +25,12 @@ abbrev pub IsOfBytes : Option PcapFault → Type 0
 IsOfBytes (Some ReadFault) = ⊥
 IsOfBytes (Some NoMemory) = ⊥
 IsOfBytes end = ⊤
+
+-- the fault is one of the header: the bytes begin with none, or with that of another link
+abbrev pub is_header_fault : Option PcapFault → Bool
+is_header_fault (Some NotPcap) = true
+is_header_fault (Some (WrongLink link)) = true
+is_header_fault end = false
 
 -- ---- the header
 

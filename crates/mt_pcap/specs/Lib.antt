@@ -8,4 +8,7 @@ pub mod Merge
 pub mod MergeFacts
 pub mod Sources
 pub mod Filling
+pub mod Opened
 pub mod StreamLaws
+pub mod Merged
+pub mod MergedLaws

@@ -1,6 +1,7 @@
 //! The laws of the words that the contracts use.
 ghost use Rattle.mt_pcap.specs.Laws.{CaptureStands, CaptureStandsAlone, CaptureReadsBack, CaptureIsSound};
-ghost use Rattle.mt_pcap.specs.StreamLaws.{ReadsToEnd, MergesToEnd, MergesToLimit};
+ghost use Rattle.mt_pcap.specs.StreamLaws.{LeaveTogether, NoneOpened, OneMoreOpened, ReadsToEnd, MergesToEnd, MergesToLimit, MergesFront, MergesOneMore};
+ghost use Rattle.mt_pcap.specs.MergedLaws.{BeginsToMerge, MergesOn, MergesWhole, MergesFull, MergesSoFar, MergesBroken, FailsToRead, OpenedStill, MergedStill};
 ghost use Rattle.mt_pcap.specs.MergeFacts.{MergeIsSound, MergeOfOne};
 
 /// All bytes stand, in the words of the file format, for the capture that is read of them.
@@ -44,4 +45,31 @@ pub fn reads_to_end()
 pub fn merges_to_end()
     ensures to_end { MergesToEnd }
     ensures to_limit { MergesToLimit }
+{}
+
+/// What a merge gives one after the other is a front of the merge of the whole captures, and so is one frame more.
+pub fn merges_front()
+    ensures front { MergesFront }
+    ensures one_more { MergesOneMore }
+{}
+
+/// Captures that are opened one after the other leave together what their files held.
+pub fn opens_all()
+    ensures together { LeaveTogether }
+    ensures none { NoneOpened }
+    ensures one_more { OneMoreOpened }
+{}
+
+/// The calls of a merge, from its beginning on, give the merge of what the files held before they were opened, to its
+/// end, to its limit or to a read that fails.
+pub fn merges_all()
+    ensures begins { BeginsToMerge }
+    ensures on { MergesOn }
+    ensures whole { MergesWhole }
+    ensures full { MergesFull }
+    ensures so_far { MergesSoFar }
+    ensures broken { MergesBroken }
+    ensures fails { FailsToRead }
+    ensures opened_still { OpenedStill }
+    ensures still { MergedStill }
 {}

@@ -2,7 +2,8 @@
 //! one list of records and one end (`laws`), which `whole` reads at once and `Reader` record by record, however
 //! the file cuts its reads; `Merge` gives the records of several captures by time, and `Writer` writes records.
 //! Read `specs/Format.antt` first, the format as a writer sees it, then `specs/Capture.antt`, `specs/Merge.antt`
-//! and `specs/Stream.antt`, then `reader.rt` and `merging.rt`.
+//! and `specs/Stream.antt`, then `reader.rt` and `merging.rt`; a caller of a merge also `specs/Opened.antt` and
+//! `specs/Merged.antt`, with their laws.
 #![tactic(auto)]
 
 mod fault;

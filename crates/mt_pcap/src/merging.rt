@@ -1,15 +1,16 @@
 //! Merging captures as they are read: the frames of several devices one by one, by the time of their
 //! capture.
-ghost use Rattle.std.specs.Prelude.{◌≡◌, ◌≢◌, ℕ, ◌<◌, ◌≤◌, ◌+◌, ◌/◌, ◌^◌, ◌⊎◌, length, map, slice_get, slice_set, Option, Some, None, MatchOption, MatchResult, IfOk, IfErr, IfSome, IsErrOf, OnOk, IsSome, ◌==◌, nat_le, if◌then◌else◌, option_map};
+ghost use Rattle.std.specs.Prelude.{◌≡◌, ◌≢◌, false, ℕ, ◌<◌, ◌≤◌, ◌+◌, ◌/◌, ◌^◌, ◌⊎◌, [], ◌∷◌, length, map, slice_get, slice_set, Option, Some, None, MatchOption, MatchResult, IfOk, IfErr, IfSome, IsErrOf, OnOk, IsSome, ◌==◌, nat_le, if◌then◌else◌, option_map};
 ghost use Rattle.std.specs.Bool.{OnTrue, OnFalse};
 ghost use Rattle.std.specs.List.{list_any, list_all};
 ghost use Rattle.std.specs.Str.{bytes_eq};
 ghost use Rattle.mt_io.specs.Files.{Rose, IsSame, IsSameBut, NeverFell};
 ghost use Rattle.mt_pcap.specs.declared.fault.PcapFault.{PcapFault};
-ghost use Rattle.mt_pcap.specs.Capture.{IsOfBytes, ended};
-ghost use Rattle.mt_pcap.specs.Stream.{ReaderState, over, IsLeft};
+ghost use Rattle.mt_pcap.specs.Capture.{IsOfBytes, is_header_fault, ended};
+ghost use Rattle.mt_pcap.specs.Stream.{ReaderState, over, TakesSo, HasNoRecord, IsLeft};
 ghost use Rattle.mt_pcap.specs.Merge.{next_index, Done, Fault};
 ghost use Rattle.mt_pcap.specs.Sources.{Source, MergeState, begun, names_of, AreApart, IsSameBeside, left_in, all_left, EndsSo, GivesSo, HasFailed};
+ghost use Rattle.mt_pcap.specs.Merged.{IsUnended, HasGiven, HaveGiven, AreUnbroken, AreReadyBut, HasBroken};
 ghost use Rattle.mt_pcap.specs.Filling.{IsReady, AreReady, IsBalanced, AreBalanced, stamp_of, heads_of, HasTaken, IsOfMerge};
 
 use crate::fault::PcapFault;
@@ -84,6 +85,10 @@ impl Queue {
         ensures left { MatchResult result (λ _. left_in (F.held files.new) self.new ≡ left_in (F.held files.old) self.old) (λ fault. fault ≢ PcapFault.ReadFault → left_in (F.held files.new) self.new ≡ left_in (F.held files.old) self.old) }
         ensures fault { IfErr result (λ fault. IsOfBytes (Some fault) → IsLeft (left_in (F.held files.old) self.old) (ended (Some fault))) }
         ensures read_fault { IsErrOf result PcapFault.ReadFault → (self.old.reader.standing ≡ over (Some PcapFault.ReadFault)) ⊎ Rose (F.read_faults files.old self.old.reader.name) (F.read_faults files.new self.old.reader.name) }
+        ensures goes_on { OnOk result (TakesSo (F.held files.old self.old.reader.name) (F.held files.new self.old.reader.name) (λ bytes. HasGiven [] self.old bytes self.new)) }
+        ensures unbroken { OnOk result ((fault : PcapFault) → self.new.reader.standing ≡ over (Some fault) → self.old.reader.standing ≡ over (Some fault)) }
+        ensures cut { IfErr result (λ fault. fault ≡ PcapFault.ReadFault → (self.old.head ≡ None) × IsUnended self.old × TakesSo (F.held files.old self.old.reader.name) (F.held files.new self.old.reader.name) (HasNoRecord self.old.reader.standing)) }
+        ensures past_header { IfErr result (λ fault. ((other : PcapFault) → self.old.reader.standing ≢ over (Some other)) → is_header_fault (Some fault) ≡ false) }
         ensures name { self.new.reader.name ≡ self.old.reader.name }
         ensures balanced { IsBalanced self.old self.new }
 
@@ -159,7 +164,11 @@ fn fill_all<F: Files>(queues: &mut [Queue], files: &mut F) -> Result<(), MergeFa
     ensures left { MatchResult result (λ _. all_left (F.held files.new) queues.new ≡ all_left (F.held files.old) queues.old) (λ f. f.fault ≢ PcapFault.ReadFault → all_left (F.held files.new) queues.new ≡ all_left (F.held files.old) queues.old) }
     ensures fault { IfErr result (λ f. IsOfBytes (Some f.fault) → EndsSo (all_left (F.held files.old) queues.old) (Fault f.device f.fault)) }
     ensures read_fault { IfErr result (λ f. f.fault ≡ PcapFault.ReadFault → HasFailed queues.old f.device f.fault (F.read_faults files.old) (F.read_faults files.new)) }
+    ensures goes_on { OnOk result (HaveGiven [] queues.old queues.new (F.held files.old) (F.held files.new)) }
+    ensures unbroken { OnOk result (AreUnbroken queues.old → AreUnbroken queues.new) }
+    ensures broken { IfErr result (λ f. f.fault ≡ PcapFault.ReadFault → HasBroken queues.old f.device (F.held files.old) (F.held files.new)) }
     ensures device { IfErr result (λ f. (1 ≤ f.device) × (f.device ≤ length queues.old)) }
+    ensures past_header { IfErr result (λ f. AreUnbroken queues.old → is_header_fault (Some f.fault) ≡ false) }
     ensures names { names_of queues.new ≡ names_of queues.old }
     ensures balanced { AreBalanced queues.old queues.new }
 
@@ -198,6 +207,11 @@ fn next_of<F: Files>(
     ensures left { MatchResult result
         (λ next. next ≡ None → all_left (F.held files.new) queues.new ≡ all_left (F.held files.old) queues.old)
         (λ f. f.fault ≢ PcapFault.ReadFault → all_left (F.held files.new) queues.new ≡ all_left (F.held files.old) queues.old) }
+    ensures each_gives { IfOk result (λ next. IfSome next (λ frame. HaveGiven (frame ∷ []) queues.old queues.new (F.held files.old) (F.held files.new))) }
+    ensures ready { IfOk result (λ next. IfSome next (λ frame. AreReadyBut frame.device queues.new)) }
+    ensures unbroken { IfOk result (λ next. IfSome next (λ _. AreUnbroken queues.old → AreUnbroken queues.new)) }
+    ensures broken { IfErr result (λ f. f.fault ≡ PcapFault.ReadFault → HasBroken queues.old f.device (F.held files.old) (F.held files.new)) }
+    ensures past_header { IfErr result (λ f. AreUnbroken queues.old → is_header_fault (Some f.fault) ≡ false) }
     ensures number { IfOk result (λ next. IfSome next (λ frame. frame.number ≡ given)) }
     ensures device { MatchResult result
         (λ next. IfSome next (λ frame. (1 ≤ frame.device) × (frame.device ≤ length queues.old)))
@@ -320,6 +334,11 @@ impl Merge {
         ensures left { MatchResult result
             (λ next. next ≡ None → all_left (F.held files.new) self.new.sources ≡ all_left (F.held files.old) self.old.sources)
             (λ f. f.fault ≢ PcapFault.ReadFault → all_left (F.held files.new) self.new.sources ≡ all_left (F.held files.old) self.old.sources) }
+        ensures each_gives { IfOk result (λ next. IfSome next (λ frame. HaveGiven (frame ∷ []) self.old.sources self.new.sources (F.held files.old) (F.held files.new))) }
+        ensures ready { IfOk result (λ next. IfSome next (λ frame. AreReadyBut frame.device self.new.sources)) }
+        ensures unbroken { IfOk result (λ next. IfSome next (λ _. AreUnbroken self.old.sources → AreUnbroken self.new.sources)) }
+        ensures broken { IfErr result (λ f. f.fault ≡ PcapFault.ReadFault → HasBroken self.old.sources f.device (F.held files.old) (F.held files.new)) }
+        ensures past_header { IfErr result (λ f. AreUnbroken self.old.sources → is_header_fault (Some f.fault) ≡ false) }
         ensures number { IfOk result (λ next. IfSome next (λ frame. frame.number ≡ self.old.given)) }
         ensures device { MatchResult result
             (λ next. IfSome next (λ frame. (1 ≤ frame.device) × (frame.device ≤ length self.old.sources)))

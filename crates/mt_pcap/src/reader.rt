@@ -1,9 +1,9 @@
 //! Reading a capture record by record.
-ghost use Rattle.std.specs.Prelude.{◌≡◌, ◌≢◌, ℕ, ◌<◌, ◌≤◌, ◌+◌, ◌*◌, ◌/◌, ◌^◌, ◌⊎◌, [], ◌++◌, length, Option, Some, None, take, option_map, IfOk, IfErr, IfSome, IsErrOf, OnErr, MatchResult, MatchOption};
+ghost use Rattle.std.specs.Prelude.{◌≡◌, ◌≢◌, true, false, ℕ, ◌<◌, ◌≤◌, ◌+◌, ◌*◌, ◌/◌, ◌^◌, ◌⊎◌, [], ◌++◌, length, Option, Some, None, take, option_map, IfOk, IfErr, IfSome, IsErrOf, OnErr, MatchResult, MatchOption};
 ghost use Rattle.mt_io.specs.Files.{Takes, IsAtEnd, Rose, IsSame, IsSameBut, NeverFell};
 ghost use Rattle.mt_io.specs.Copy.{TakesAtMost};
-ghost use Rattle.mt_pcap.specs.Capture.{IsOfBytes, ended, capture_of};
-ghost use Rattle.mt_pcap.specs.Stream.{ReaderState, within, over, left_at, left_of, in_front, IsLeft, IsCut, HasLength, HasHead, at_end};
+ghost use Rattle.mt_pcap.specs.Capture.{IsOfBytes, is_header_fault, ended, capture_of};
+ghost use Rattle.mt_pcap.specs.Stream.{ReaderState, within, over, left_at, left_of, in_front, TakesSo, HasBegun, HasRead, HasGoneOn, HasNoRecord, IsLeft, IsCut, HasLength, HasHead, at_end};
 
 use crate::fault::PcapFault;
 use crate::form::{Form, SECOND};
@@ -56,11 +56,14 @@ impl Reader {
     /// Ethernet frames.
     pub fn open<F: Files>(alloc: Global, files: &mut F, name: &str) -> Result<Reader, PcapFault>
         ensures opened { IfOk result (λ reader. left_of reader (F.held files.new) ≡ option_map capture_of (F.held files.old name.now)) }
+        ensures begins { IfOk result (λ reader. IfSome (left_of reader (F.held files.new)) (λ c. is_header_fault c.end ≡ false)) }
+        ensures reads { IfOk result (λ reader. TakesSo (F.held files.old name.now) (F.held files.new name.now) (λ bytes. HasBegun bytes reader.standing)) }
         ensures name { IfOk result (λ reader. reader.name ≡ name.now) }
         ensures none_given { IfOk result (λ reader. reader.given ≡ 0) }
         ensures fault { IfErr result (λ fault. IsOfBytes (Some fault) → IsLeft (option_map capture_of (F.held files.old name.now)) (ended (Some fault))) }
         ensures read_fault { IsErrOf result PcapFault.ReadFault → Rose (F.read_faults files.old name.now) (F.read_faults files.new name.now) }
         ensures no_memory { IsErrOf result PcapFault.NoMemory → files.new ≡ files.old }
+        ensures header { IfErr result (λ fault. IsOfBytes (Some fault) → is_header_fault (Some fault) ≡ true) }
         ensures taken { TakesAtMost 24 (F.held files.old name.now) (F.held files.new name.now) }
 
         ensures other_files { IsSameBut name.now (F.held files.old) (F.held files.new) }
@@ -113,8 +116,13 @@ impl Reader {
         ensures no_memory { IsErrOf result PcapFault.NoMemory → left_of self.new (F.held files.new) ≡ left_of self.old (F.held files.old) }
         ensures over { MatchResult result (λ next. next ≡ None → self.new.standing ≡ over None) (λ fault. fault ≢ PcapFault.NoMemory → self.new.standing ≡ over (Some fault)) }
         ensures again { (end : Option PcapFault) → self.old.standing ≡ over end → (result ≡ at_end end) × (self.new ≡ self.old) × (files.new ≡ files.old) }
+        ensures past_header { IfErr result (λ fault. ((other : PcapFault) → self.old.standing ≢ over (Some other)) → is_header_fault (Some fault) ≡ false) }
         ensures seconds_fit { IfOk result (λ next. IfSome next (λ r. r.0 / 1000000000 < 2 ^ 32)) }
         ensures lengths { IfOk result (λ next. IfSome next (λ r. length r.1 ≤ 262144)) }
+        ensures reads { IfOk result (λ next. IfSome next (λ r. TakesSo (F.held files.old self.old.name) (F.held files.new self.old.name) (λ bytes. HasRead self.old.standing bytes r self.new.standing))) }
+        ensures end_takes_nothing { IfOk result (λ next. next ≡ None → (F.held files.new self.old.name ≡ F.held files.old self.old.name) × (left_at self.old.standing [] ≡ ended None)) }
+        ensures cut { IfErr result (λ fault. fault ≢ PcapFault.NoMemory → TakesSo (F.held files.old self.old.name) (F.held files.new self.old.name) (HasNoRecord self.old.standing)) }
+        ensures goes_on { IsErrOf result PcapFault.NoMemory → TakesSo (F.held files.old self.old.name) (F.held files.new self.old.name) (λ bytes. HasGoneOn self.old.standing bytes self.new.standing) }
         ensures name { self.new.name ≡ self.old.name }
         ensures given { MatchResult result (λ next. MatchOption next (self.new.given ≡ self.old.given) (λ _. self.new.given ≡ self.old.given + 1)) (λ _. self.new.given ≡ self.old.given) }
         ensures taken { TakesAtMost 262160 (F.held files.old self.old.name) (F.held files.new self.old.name) }
@@ -149,6 +157,10 @@ impl Reader {
     #[tactic(auto, using(crate::proofs::Streams::none_left, crate::proofs::Streams::head_cut))]
     fn head<F: Files>(&mut self, files: &mut F) -> Result<Option<[u8; HEAD_LENGTH]>, PcapFault>
         ensures head { IfOk result (λ next. IfSome next (λ head. HasHead self.new.standing head)) }
+        ensures goes_on { IfOk result (λ next. IfSome next (λ _. TakesSo (F.held files.old self.old.name) (F.held files.new self.old.name) (λ bytes. HasGoneOn self.old.standing bytes self.new.standing))) }
+        ensures end_takes_nothing { IfOk result (λ next. next ≡ None → (F.held files.new self.old.name ≡ F.held files.old self.old.name) × (left_at self.old.standing [] ≡ ended None)) }
+        ensures goes_on_later { IsErrOf result PcapFault.NoMemory → TakesSo (F.held files.old self.old.name) (F.held files.new self.old.name) (λ bytes. HasGoneOn self.old.standing bytes self.new.standing) }
+        ensures cut { IfErr result (λ _. TakesSo (F.held files.old self.old.name) (F.held files.new self.old.name) (HasNoRecord self.old.standing)) }
         ensures kept { IfOk result (λ next. IfSome next (λ _. left_of self.new (F.held files.new) ≡ left_of self.old (F.held files.old))) }
         ensures end { IfOk result (λ next. next ≡ None → IsLeft (left_of self.old (F.held files.old)) (ended None)) }
         ensures fault { IfErr result (λ fault. IsOfBytes (Some fault) → IsLeft (left_of self.old (F.held files.old)) (ended (Some fault))) }
@@ -156,6 +168,7 @@ impl Reader {
         ensures no_memory { IsErrOf result PcapFault.NoMemory → left_of self.new (F.held files.new) ≡ left_of self.old (F.held files.old) }
         ensures over { MatchResult result (λ next. next ≡ None → self.new.standing ≡ over None) (λ fault. self.new.standing ≡ over (Some fault)) }
         ensures again { (end : Option PcapFault) → self.old.standing ≡ over end → (result ≡ at_end end) × (self.new ≡ self.old) × (files.new ≡ files.old) }
+        ensures past_header { IfErr result (λ fault. ((other : PcapFault) → self.old.standing ≢ over (Some other)) → is_header_fault (Some fault) ≡ false) }
         ensures name { self.new.name ≡ self.old.name }
         ensures given { self.new.given ≡ self.old.given }
         ensures taken { TakesAtMost 16 (F.held files.old self.old.name) (F.held files.new self.old.name) }
@@ -190,9 +203,11 @@ impl Reader {
 /// Reads the header of a capture.
 fn take_header<F: Files>(files: &mut F, name: &str) -> Result<Form, PcapFault>
     ensures form { IfOk result (λ form. option_map (left_at (within form 24 [])) (F.held files.new name.now) ≡ option_map capture_of (F.held files.old name.now)) }
+    ensures reads { IfOk result (λ form. TakesSo (F.held files.old name.now) (F.held files.new name.now) (λ bytes. HasBegun bytes (within form 24 []))) }
     ensures fault { IfErr result (λ fault. IsOfBytes (Some fault) → IsLeft (option_map capture_of (F.held files.old name.now)) (ended (Some fault))) }
     ensures read_fault { IsErrOf result PcapFault.ReadFault → Rose (F.read_faults files.old name.now) (F.read_faults files.new name.now) }
     ensures memory { IfErr result (λ fault. fault ≢ PcapFault.NoMemory) }
+    ensures header { IfErr result (λ fault. IsOfBytes (Some fault) → is_header_fault (Some fault) ≡ true) }
     ensures taken { TakesAtMost 24 (F.held files.old name.now) (F.held files.new name.now) }
 
     ensures other_files { IsSameBut name.now (F.held files.old) (F.held files.new) }
@@ -215,6 +230,8 @@ fn take_head<F: Files>(
 ) -> Result<Option<[u8; HEAD_LENGTH]>, PcapFault>
     ensures head { IfOk result (λ next. IfSome next (λ head. Takes (F.held files.old name.now) head (F.held files.new name.now))) }
     ensures end { IfOk result (λ next. next ≡ None → IsAtEnd (F.held files.old name.now)) }
+    ensures end_takes_nothing { IfOk result (λ next. next ≡ None → F.held files.new name.now ≡ F.held files.old name.now) }
+    ensures cut { IfErr result (λ _. TakesSo (F.held files.old name.now) (F.held files.new name.now) (λ bytes. length bytes < 16)) }
     ensures fault { IfErr result (λ fault. (fault ≡ PcapFault.ReadFault) ⊎ ((fault ≡ PcapFault.Torn offset) × IsCut (F.held files.old name.now))) }
     ensures read_fault { IsErrOf result PcapFault.ReadFault → Rose (F.read_faults files.old name.now) (F.read_faults files.new name.now) }
     ensures taken { TakesAtMost 16 (F.held files.old name.now) (F.held files.new name.now) }
@@ -243,9 +260,12 @@ fn take_data<F: Files>(
     head: &[u8; HEAD_LENGTH],
 ) -> Result<(u64, Frame), PcapFault>
     ensures gives { IfOk result (λ r. option_map (left_at (within form offset head.now)) (F.held files.old name.now) ≡ option_map (in_front r) (option_map (left_at (within form (offset + (16 + length r.1)) [])) (F.held files.new name.now))) }
+    ensures reads { IfOk result (λ r. TakesSo (F.held files.old name.now) (F.held files.new name.now) (λ bytes. HasRead (within form offset head.now) bytes r (within form (offset + (16 + length r.1)) []))) }
+    ensures cut { IfErr result (λ fault. fault ≢ PcapFault.NoMemory → TakesSo (F.held files.old name.now) (F.held files.new name.now) (HasNoRecord (within form offset head.now))) }
     ensures fault { IfErr result (λ fault. IsOfBytes (Some fault) → IsLeft (option_map (left_at (within form offset head.now)) (F.held files.old name.now)) (ended (Some fault))) }
     ensures read_fault { IsErrOf result PcapFault.ReadFault → Rose (F.read_faults files.old name.now) (F.read_faults files.new name.now) }
     ensures no_memory { IsErrOf result PcapFault.NoMemory → files.new ≡ files.old }
+    ensures past_header { IfErr result (λ fault. is_header_fault (Some fault) ≡ false) }
     ensures head_only { IfErr result (λ fault. (at : ℕ) → fault ≡ PcapFault.BadRecord at → files.new ≡ files.old) }
     ensures seconds_fit { IfOk result (λ r. r.0 / 1000000000 < 2 ^ 32) }
     ensures lengths { IfOk result (λ r. length r.1 ≤ 262144) }
@@ -281,6 +301,7 @@ fn fill<F: Files>(files: &mut F, name: &str, buf: &mut [u8]) -> Result<usize, Fa
     ensures taken { IfOk result (λ n. Takes (F.held files.old name.now) (take n buf.new) (F.held files.new name.now)) }
     ensures short { IfOk result (λ n. n < length buf.old → HasLength n (F.held files.old name.now)) }
     ensures failed { OnErr result (Rose (F.read_faults files.old name.now) (F.read_faults files.new name.now)) }
+    ensures cut { OnErr result (TakesSo (F.held files.old name.now) (F.held files.new name.now) (λ bytes. length bytes < length buf.old)) }
     ensures at_most { TakesAtMost (length buf.old) (F.held files.old name.now) (F.held files.new name.now) }
 
     ensures other_files { IsSameBut name.now (F.held files.old) (F.held files.new) }

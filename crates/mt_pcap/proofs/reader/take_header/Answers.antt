@@ -1,12 +1,16 @@
 use Rattle.std.proofs.Common.{◌≡◌, length, take, sym, subst, arith}
 use Rattle.std.proofs.lemmas.List.{length-take}
 use Rattle.mt_pcap.specs.Stream.{HasLength}
-use Rattle.mt_pcap.proofs.Streams.{header_whole, header_err, header_no_memory, header_no_read}
+use Rattle.mt_pcap.proofs.Streams.{header_whole, header_begun, header_err, header_no_memory, header_no_read, header_of_kind}
 use Rattle.mt_pcap.proofs.reader.take_header.Goals as goal
 
 pub returns-in-Ok-clause-form : goal.returns-in-Ok-clause-form
 returns-in-Ok-clause-form g c =
     header_whole c.header_of.result (take c.in-Ok.count c.fill.new.buf) _ _ c.header_of.ensures.value c.header_of.ensures.long (omega (arith, length-take c.in-Ok.count c.fill.new.buf, c.in-Ok.ensures.within)) c.in-Ok.ensures.taken
+
+pub returns-in-Ok-clause-reads : goal.returns-in-Ok-clause-reads
+returns-in-Ok-clause-reads g c =
+    header_begun c.header_of.result (take c.in-Ok.count c.fill.new.buf) _ _ c.header_of.ensures.value c.header_of.ensures.long (omega (arith, length-take c.in-Ok.count c.fill.new.buf, c.in-Ok.ensures.within)) c.in-Ok.ensures.taken
 
 pub returns-in-Ok-clause-fault : goal.returns-in-Ok-clause-fault
 returns-in-Ok-clause-fault g c =
@@ -19,3 +23,6 @@ returns-in-Ok-clause-read_fault g c = λ same. absurd (header_no_read c.header_o
 
 pub returns-in-Ok-clause-memory : goal.returns-in-Ok-clause-memory
 returns-in-Ok-clause-memory g c = header_no_memory c.header_of.result (take c.in-Ok.count c.fill.new.buf) c.header_of.ensures.value
+
+pub returns-in-Ok-clause-header : goal.returns-in-Ok-clause-header
+returns-in-Ok-clause-header g c = header_of_kind c.header_of.result (take c.in-Ok.count c.fill.new.buf) c.header_of.ensures.value
