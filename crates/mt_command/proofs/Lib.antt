@@ -1,0 +1,10 @@
+pub mod Lists
+pub mod Named
+pub mod Rows
+pub mod Steps
+pub mod Ends
+pub mod Firsts
+pub mod OneAnswer
+pub mod Written
+pub mod FilesApart
+pub mod BoundApart

@@ -1,0 +1,7 @@
+pub mod Apart
+pub mod Bindings
+pub mod Command
+pub mod Devices
+pub mod Parts
+pub mod Reading
+pub mod Words

@@ -1,0 +1,10 @@
+mod CommandsSaid
+mod Counted
+mod LinesFound
+mod Numerals
+mod PrintedRead
+mod PrintedWords
+mod ReadSoFar
+mod Rows
+mod TextsJoined
+mod WordsFound
