@@ -1,198 +1,364 @@
 -- A run answers what is due.
-use Rattle.std.proofs.Common.{◌≡◌, ◌⊎◌, inl, inr, ⊎_elim, ℕ, ◌<◌, ◌≤◌, true, false, List, [], ◌∷◌, length, Option, Some, None, Ok, Err, refl, sym, ◌∙◌, ap, subst, arith}
-use Rattle.std.specs.Prelude.{IfSome, Result, nat_lt, if◌then◌else◌, option_map, option_and_then}
+use Rattle.std.proofs.Common.{◌≡◌, ◌⊎◌, inl, inr, ℕ, zero, suc, ◌+◌, ◌<◌, ◌≤◌, Bool, true, false, List, [], ◌∷◌, length, get_or, Option, Some, None, Ok, Err, refl, sym, ◌∙◌, ap, subst, arith}
+use Rattle.std.specs.Prelude.{IfSome, Result, nat_lt, option_map, option_and_then, position, slice_get}
 use Rattle.std.proofs.lemmas.Bool.Decides.{nat_tests}
+use Rattle.std.proofs.lemmas.Option.{none-some, same_Some, slice_get-get_or, slice_get_within}
+use Rattle.mt_lists.specs.Options.{each}
+use Rattle.mt_lists.proofs.Positions.{NoneBefore, found, missing}
 use Rattle.mt_io.specs.Files.{Rose}
 use Rattle.mt_elements.specs.ChainState.{ChainState}
 use Rattle.mt_pcap.specs.declared.fault.PcapFault.{PcapFault}
-use Rattle.mt_pcap.specs.Capture as captures
-use Rattle.metron.specs.Command.{Words, command_of}
-use Rattle.metron.specs.Inputs.{Told, ReadsAs, capture_limit, is_no_header, IsChainRead, IsScriptRead, IsCaptureRead, IsChainFault, ScriptFault, CaptureFault}
-use Rattle.metron.specs.Serving.{ServeFault}
-use Rattle.metron.specs.Causes.{Held, State, binds, output_device, end_of, IsUntouched, IsRun}
-use Rattle.metron.specs.Causes.IsRun.{no_command, chain_refused, not_bound, script_refused, capture_refused, broken_off, ended}
-use Rattle.metron.specs.Due.{capture_due, script_due, bound_due, reading_due, IsOwed, IsInterruption, IsExact, IsComplete, NoneFailed, IsFinished, IsEarly}
+use Rattle.mt_pcap.specs.declared.fault.PcapFault.TheVariants.{BadRecord, Torn}
+use Rattle.mt_pcap.specs.Capture.{Capture, is_header_fault}
+use Rattle.mt_pcap.specs.Merge as merges
+use Rattle.mt_pcap.specs.Merge.{MergedEnd, merge_of}
+use Rattle.mt_pcap.specs.Opened.{capture_in, captures_in}
+use Rattle.mt_packet.specs.declared.frame.Stamped.{Stamped}
+use Rattle.mt_script.specs.Script.{commands_of}
+use Rattle.mt_script.specs.declared.command.Command.{Command}
+use Rattle.mt_script.specs.declared.fault.ScriptFault.{ScriptFault as ScriptTold}
+use Rattle.mt_command.specs.Parts.{RunView, BindingView, DeviceView, BoundView}
+use Rattle.mt_command.specs.Command.{IsCommand, IsFirstAtFault}
+use Rattle.mt_command.specs.Devices.{IsFirstUnfit, IsFirstUnbound, AreBound}
+use Rattle.metron.specs.Inputs.{Told, ReadsAs, IsChainRead, IsChainFault, IsScriptRead, ScriptFault, text_limit, devices_of, inputs_of, outputs_of, BeginWell, IsFirstRefused, CaptureFault}
+use Rattle.metron.specs.Serving.{Held, OutputFault, fault_of, IsEnd}
+use Rattle.metron.specs.Causes.{State, IsAtChain, IsAtScript, IsAtCaptures, IsUntouched, BindCause, IsRefusal, AllBegin, IsRunOf, IsRun}
+use Rattle.metron.specs.Causes.IsRefusal.{no_memory, no_command, chain_refused, not_bound, script_refused}
+use Rattle.metron.specs.Causes.IsRunOf.{capture_refused, ended, input_failed, broken_off}
+use Rattle.metron.specs.Causes.IsRun.{refused, ran}
+use Rattle.metron.specs.Due.{end_at, or_else, captures_due, OweAll, CommandsOwe, TextOwes, ScriptOwes, ChainOwes, ReadingOwes, IsOwed, IsInterruption, IsExact, IsComplete, NoneFailed, IsFinished, IsEarly}
 use Rattle.metron.specs.declared.outcome.FileId.TheVariants as file
 use Rattle.metron.specs.declared.outcome.Fault.{Fault}
-use Rattle.metron.specs.declared.outcome.Fault.TheVariants.{Done, UsageWord, Unbuilt, TooLong, Click, Capture, Read, Write, Memory}
+use Rattle.metron.specs.declared.outcome.Fault.TheVariants.{Done, UsageWord, Unbound, Unbuilt, TooLong, Click, Script, Capture as CaptureTold, Read, Write, Memory, Frames}
 use Rattle.metron.specs.declared.outcome.Fault.TheVariants as fault
 
--- the answer, or what came in its place
-abbrev Answers : Option Fault → Fault → Type 0 → Type 0
-Answers answer fault interrupted = IfSome answer (λ d. (fault ≡ d) ⊎ interrupted)
+-- ---- captures that are told
 
-pub interrupts : (answer : Option Fault) (fault : Fault) (I : Type 0) → I → Answers answer fault I
-interrupts None fault I i = tt
-interrupts (Some d) fault I i = inr i
+split : {B : Type 0} (o : Option B) (os : Option (List B)) (ys : List B) → option_and_then (λ y. option_map (λ more. y ∷ more) os) o ≡ Some ys
+    → (y : B) × (more : List B) × (o ≡ Some y) × (os ≡ Some more) × (ys ≡ y ∷ more)
+split None os ys h = absurd (none-some ys h)
+split (Some y) None ys h = absurd (none-some ys h)
+split (Some y) (Some more) ys h = (y, more, refl, refl, sym (same_Some (y ∷ more) ys h))
 
--- an answer, or what came in its place, one of the two
-apart : (answer : Option Fault) (fault : Fault) (I : Type 0) → Answers answer fault I → IfSome answer (λ d. fault ≡ d) ⊎ I
-apart None fault I h = inl tt
-apart (Some d) fault I h = h
+get_of_each : {A B : Type 0} (f : A → Option B) (xs : List A) (ys : List B) (k : ℕ) (x : A) → each f xs ≡ Some ys → slice_get xs k ≡ Some x → f x ≡ slice_get ys k
+unfolding each
+get_of_each f [] ys k x is at = absurd (none-some x at)
+get_of_each f (z ∷ xs) ys zero x is at =
+    let parts = split (f z) (each f xs) ys is in
+    let same : z ≡ x = same_Some z x at in
+    ap f (sym same) ∙ parts.2 ∙ ap (λ l. slice_get l zero) (sym parts.4)
+get_of_each f (z ∷ xs) ys (suc k) x is at =
+    let parts = split (f z) (each f xs) ys is in
+    get_of_each f xs parts.1 k x parts.3 at ∙ ap (λ l. slice_get l (suc k)) (sym parts.4)
 
--- an answer that the text of a chain owes
-abbrev Owes : Told → Words → Held → Fault → Type 0
-Owes told words held fault = IfSome told (λ text. (reading : Result ChainState Fault) × ReadsAs text reading × IfSome (reading_due reading words held) (λ answer. fault ≡ answer))
+length_of_each : {A B : Type 0} (f : A → Option B) (xs : List A) (ys : List B) → each f xs ≡ Some ys → length ys ≡ length xs
+unfolding each
+length_of_each f [] ys is = ap length (sym (same_Some [] ys is))
+length_of_each f (z ∷ xs) ys is = let parts = split (f z) (each f xs) ys is in ap length parts.4 ∙ ap suc (length_of_each f xs parts.1 parts.3)
 
-too_long : (bytes : List ℕ) (e : Fault) → capture_limit < length bytes → (if nat_lt capture_limit (length bytes) then TooLong (file.Capture 1) else e) ≡ TooLong (file.Capture 1)
-too_long bytes e long = grind (arith, nat_tests)
+abbrev is_bad : Capture → Bool
+is_bad c = is_header_fault c.end
 
-not_too_long : (bytes : List ℕ) (e : Fault) → length bytes ≤ capture_limit → (if nat_lt capture_limit (length bytes) then TooLong (file.Capture 1) else e) ≡ e
-not_too_long bytes e within = grind (arith, nat_tests)
+-- what holds of a capture that is told
+told_at : (held : Held) (names : List (List ℕ)) (all : List Capture) (k : ℕ) (name : List ℕ) (P : Capture → Type 0) → captures_in held names ≡ Some all → slice_get names k ≡ Some name → IfSome (capture_in held name) P
+    → (c : Capture) → slice_get all k ≡ Some c → P c
+told_at held names all k name P is at h c there =
+    subst (λ (o : Option Capture). IfSome o P) (get_of_each (capture_in held) names all k name is at ∙ there) h
 
--- ---- the stages, from the last to the first
+-- the captures before an index begin well
+good_before : (held : Held) (names : List (List ℕ)) (all : List Capture) (n : ℕ) → n ≤ length names → captures_in held names ≡ Some all → BeginWell held names n → NoneBefore is_bad all n
+good_before held names all n within is begin k d lt =
+    let long : length all ≡ length names = length_of_each (capture_in held) names all is in
+    let at : slice_get names k ≡ Some (get_or names k []) = slice_get-get_or names k [] (omega (arith, lt, within)) in
+    let there : slice_get all k ≡ Some (get_or all k d) = slice_get-get_or all k d (omega (arith, lt, within, long)) in
+    told_at held names all k (get_or names k []) (λ c. is_header_fault c.end ≡ false) is at (begin k (get_or names k []) lt at) (get_or all k d) there
 
-module _ (fault : Fault) (I : Type 0) where
-  at_capture_done : (told : Told) (capture : captures.Capture) → IsCaptureRead told capture → fault ≡ end_of capture.end → Answers (option_map capture_due told) fault I
-  at_capture_done None capture is end = tt
-  at_capture_done (Some bytes) capture is end =
-      inl (end ∙ ap (λ (c : captures.Capture). end_of c.end) is.stands.1 ∙ sym (not_too_long bytes (end_of (captures.capture_of bytes).end) is.stands.0))
+-- ---- what captures owe
 
-  at_script : (script capture : Told) → IsScriptRead script → Answers (option_map capture_due capture) fault I → Answers (option_and_then (λ s. script_due s capture) script) fault I
-  at_script None capture is later = tt
-  at_script (Some text) capture is later = subst (λ (s : List ℕ). Answers (script_due s capture) fault I) (sym is) later
+module _ (held : Held) (names : List (List ℕ)) (f : Fault) where
+  owe_by : (o : Option (List Capture)) → captures_in held names ≡ o → ((all : List Capture) → captures_in held names ≡ Some all → f ≡ captures_due all) → IfSome o (λ all. f ≡ captures_due all)
+  owe_by None is h = tt
+  owe_by (Some all) is h = h all is
 
-  at_bound : (chain : ChainState) (words : Words) (held : Held) → binds chain words ≡ true → Answers (option_and_then (λ s. script_due s (held words.capture)) (held words.script)) fault I → Answers (bound_due chain words held) fault I
-  at_bound chain words held bound later =
-      subst (λ b. Answers (if b then option_and_then (λ s. script_due s (held words.capture)) (held words.script) else Some (UsageWord 0)) fault I) (sym bound) later
+  -- the first header that is at fault
+  refused_owe : (device : ℕ) (why : PcapFault) → IsFirstRefused held names device why → f ≡ CaptureTold device why → OweAll held names f
+  refused_owe device why r is = owe_by (captures_in held names) refl (λ all told. is ∙ sym (due all told))
+    where
+      due : (all : List Capture) → captures_in held names ≡ Some all → captures_due all ≡ CaptureTold device why
+      due all told =
+          let within : r.index < length names = slice_get_within names r.index r.name r.file_is in
+          let long : length all ≡ length names = length_of_each (capture_in held) names all told in
+          let c : Capture = get_or all r.index (record { records = []; end = None }) in
+          let there : slice_get all r.index ≡ Some c = slice_get-get_or all r.index (record { records = []; end = None }) (omega (arith, within, long)) in
+          let ends : c.end ≡ Some why = told_at held names all r.index r.name (λ c. c.end ≡ Some why) told r.file_is r.ends c there in
+          let first : position is_bad all ≡ Some r.index = found is_bad all r.index c (good_before held names all r.index (omega (arith, within)) told r.first) there (ap is_header_fault ends ∙ r.of_header) in
+          ap (λ o. or_else (option_and_then (end_at all) o) (fault_of (merge_of all).end)) first
+          ∙ ap (λ o. or_else (option_and_then (λ (c : Capture). option_map (λ w. CaptureTold (r.index + 1) w) c.end) o) (fault_of (merge_of all).end)) there
+          ∙ ap (λ o. or_else (option_map (λ w. CaptureTold (r.index + 1) w) o) (fault_of (merge_of all).end)) ends
+          ∙ ap (λ n. CaptureTold n why) (sym r.device_is)
 
-  at_unbound : (chain : ChainState) (words : Words) (held : Held) → binds chain words ≡ false → fault ≡ UsageWord 0 → Answers (bound_due chain words held) fault I
-  at_unbound chain words held unbound is =
-      subst (λ b. Answers (if b then option_and_then (λ s. script_due s (held words.capture)) (held words.script) else Some (UsageWord 0)) fault I) (sym unbound) (inl is)
+  -- or the end of the merge
+  ended_owe : (frames : List Stamped) (end : MergedEnd) → AllBegin held names → IfSome (captures_in held names) (λ cs. merge_of cs ≡ record { frames = frames; end = end }) → f ≡ fault_of end → OweAll held names f
+  ended_owe frames end begin merged is = owe_by (captures_in held names) refl (λ all told. is ∙ sym (due all told))
+    where
+      due : (all : List Capture) → captures_in held names ≡ Some all → captures_due all ≡ fault_of end
+      due all told =
+          let long : length all ≡ length names = length_of_each (capture_in held) names all told in
+          let none : position is_bad all ≡ None = missing is_bad all (length names) (sym long) (good_before held names all (length names) (omega arith) told begin) in
+          let whole : merge_of all ≡ record { frames = frames; end = end } = subst (λ (o : Option (List Capture)). IfSome o (λ cs. merge_of cs ≡ record { frames = frames; end = end })) told merged in
+          ap (λ o. or_else (option_and_then (end_at all) o) (fault_of (merge_of all).end)) none ∙ ap (λ (m : merges.Merge). fault_of m.end) whole
 
-  at_chain : (told : Told) (chain : ChainState) (words : Words) (held : Held) → IsChainRead told chain → Answers (bound_due chain words held) fault I → Owes told words held fault ⊎ I
-  at_chain None chain words held is later = inl tt
-  at_chain (Some text) chain words held is later = elim (apart (bound_due chain words held) fault I later) [
-    | inl answered ↦ inl (Ok chain, (is.1, is.0), answered)
-    | inr interrupted ↦ inr interrupted
+-- ---- what scripts owe
+
+module _ (held : Held) (inputs : List (List ℕ)) (f : Fault) where
+  too_long : (text : List ℕ) → text_limit < length text → f ≡ TooLong file.Script → ScriptOwes text held inputs f
+  too_long text long is = let test : nat_lt text_limit (length text) ≡ true = grind (arith, nat_tests) in subst (λ (b : Bool). TextOwes b text held inputs f) (sym test) is
+
+  not_too_long : (text : List ℕ) → length text ≤ text_limit → CommandsOwe (commands_of text) held inputs f → ScriptOwes text held inputs f
+  not_too_long text short owe = let test : nat_lt text_limit (length text) ≡ false = grind (arith, nat_tests) in subst (λ (b : Bool). TextOwes b text held inputs f) (sym test) owe
+
+module _ (held : Held) (inputs : List (List ℕ)) where
+  some_command : (commands : List Command) → 0 < length commands → CommandsOwe (Ok commands) held inputs (Unbuilt file.Script)
+  some_command [] some = absurd (omega (arith, some))
+  some_command (command ∷ more) some = refl
+
+  idle_owes : (f : Fault) (script : Told) → IsScriptRead script → OweAll held inputs f → IfSome script (λ text. ScriptOwes text held inputs f)
+  idle_owes f None idle owe = tt
+  idle_owes f (Some text) idle owe =
+      not_too_long held inputs f text idle.0 (subst (λ (r : Result (List Command) ScriptTold). CommandsOwe r held inputs f) (sym idle.1) owe)
+
+  module _ (J : Fault → Type 0) (memory : J Memory) where
+    script_owes : (f : Fault) (script : Told) (before after : ℕ) → (Rose before after → J (Read file.Script)) → ScriptFault script before after f → IfSome script (λ text. ScriptOwes text held inputs f) ⊎ J f
+    script_owes (TooLong file.Script) None before after read why = inl tt
+    script_owes (TooLong file.Script) (Some text) before after read why = inl (too_long held inputs (TooLong file.Script) text why refl)
+    script_owes (Script told) None before after read why = inl tt
+    script_owes (Script told) (Some text) before after read why =
+        inl (not_too_long held inputs (Script told) text why.0 (subst (λ (r : Result (List Command) ScriptTold). CommandsOwe r held inputs (Script told)) (sym why.1) refl))
+    script_owes (Unbuilt file.Script) None before after read why = inl tt
+    script_owes (Unbuilt file.Script) (Some text) before after read why =
+        inl (not_too_long held inputs (Unbuilt file.Script) text why.short (subst (λ (r : Result (List Command) ScriptTold). CommandsOwe r held inputs (Unbuilt file.Script)) (sym why.are) (some_command why.commands why.some)))
+    script_owes (Read file.Script) script before after read why = inr (read why)
+    script_owes Memory script before after read why = inr memory
+    script_owes f script before after read why = absurd why
+
+-- ---- what chains owe
+
+-- Words give one command or are first at fault at one word; bindings give each device its files, or one is the first at
+-- fault, or a device the lowest without a file.
+pub record OneAnswer : Type 0 where
+  pub first : (words : List (List ℕ)) (n m : ℕ) → IsFirstAtFault words n → IsFirstAtFault words m → n ≡ m
+  pub command : (words : List (List ℕ)) (c d : RunView) → IsCommand words c → IsCommand words d → c ≡ d
+  pub not_both : (words : List (List ℕ)) (n : ℕ) (c : RunView) → IsFirstAtFault words n → IsCommand words c → ⊥
+  pub unfit : (bindings : List BindingView) (devices : List DeviceView) (n m : ℕ) → IsFirstUnfit bindings devices n → IsFirstUnfit bindings devices m → n ≡ m
+  pub unbound : (bindings : List BindingView) (devices : List DeviceView) (n m : ℕ) → IsFirstUnbound bindings devices n → IsFirstUnbound bindings devices m → n ≡ m
+  pub bound : (bindings : List BindingView) (devices : List DeviceView) (b c : List BoundView) → AreBound bindings devices b → AreBound bindings devices c → b ≡ c
+  pub not_unfit : (bindings : List BindingView) (devices : List DeviceView) (n : ℕ) (b : List BoundView) → IsFirstUnfit bindings devices n → AreBound bindings devices b → ⊥
+  pub not_unbound : (bindings : List BindingView) (devices : List DeviceView) (n : ℕ) (b : List BoundView) → IsFirstUnbound bindings devices n → AreBound bindings devices b → ⊥
+  pub not_unfit_unbound : (bindings : List BindingView) (devices : List DeviceView) (n m : ℕ) → IsFirstUnfit bindings devices n → IsFirstUnbound bindings devices m → ⊥
+
+-- a chain is owed as what its text is read as
+abbrev Owes : Told → RunView → Held → Fault → Type 0
+Owes told c held f = IfSome told (λ text. (reading : Result ChainState Fault) × ReadsAs text reading × ReadingOwes reading c held f)
+
+chain_owes : (c : RunView) (held : Held) (f : Fault) (chain : ChainState) (told : Told) → IsChainRead told chain → ChainOwes chain c held f → Owes told c held f
+chain_owes c held f chain None read owes = tt
+chain_owes c held f chain (Some text) read owes = (Ok chain, (read.1, read.0), owes)
+
+module _ (laws : OneAnswer) (c : RunView) (chain : ChainState) (held : Held) where
+  -- its devices have these files
+  bound_owes : (f : Fault) (bound : List BoundView) → AreBound c.bindings (devices_of chain) bound → IfSome (held c.script) (λ text. ScriptOwes text held (inputs_of chain bound) f) → ChainOwes chain c held f
+  bound_owes f bound are owes = record {
+    unfit = λ n u. absurd (laws.not_unfit c.bindings (devices_of chain) n bound u are);
+    unbound = λ n u. absurd (laws.not_unbound c.bindings (devices_of chain) n bound u are);
+    are_bound = λ other others. subst (λ (b : List BoundView). IfSome (held c.script) (λ text. ScriptOwes text held (inputs_of chain b) f)) (laws.bound c.bindings (devices_of chain) bound other are others) owes;
+  }
+
+  unbound_owes : (J : Fault → Type 0) → J Memory → (f : Fault) → BindCause c.bindings (devices_of chain) f → ChainOwes chain c held f ⊎ J f
+  unbound_owes J memory (UsageWord n) why = inl (record {
+    unfit = λ m u. ap UsageWord (laws.unfit c.bindings (devices_of chain) n m why u);
+    unbound = λ m u. absurd (laws.not_unfit_unbound c.bindings (devices_of chain) n m why u);
+    are_bound = λ bound are. absurd (laws.not_unfit c.bindings (devices_of chain) n bound why are);
+  })
+  unbound_owes J memory (Unbound n) why = inl (record {
+    unfit = λ m u. absurd (laws.not_unfit_unbound c.bindings (devices_of chain) m n u why);
+    unbound = λ m u. ap Unbound (laws.unbound c.bindings (devices_of chain) n m why u);
+    are_bound = λ bound are. absurd (laws.not_unbound c.bindings (devices_of chain) n bound why are);
+  })
+  unbound_owes J memory Memory why = inr memory
+  unbound_owes J memory f why = absurd why
+
+chain_fault : (c : RunView) (held : Held) (J : Fault → Type 0) → J Memory → (told : Told) (before after : ℕ) (f : Fault) → (Rose before after → J (Read file.Chain)) → IsChainFault told before after f → Owes told c held f ⊎ J f
+chain_fault c held J memory None before after (TooLong file.Chain) read why = inl tt
+chain_fault c held J memory None before after (Click told) read why = inl tt
+chain_fault c held J memory None before after (fault.Chain told) read why = inl tt
+chain_fault c held J memory None before after (Unbuilt file.Chain) read why = inl tt
+chain_fault c held J memory (Some text) before after (TooLong file.Chain) read why = inl (Err (TooLong file.Chain), why, refl)
+chain_fault c held J memory (Some text) before after (Click told) read why = inl (Err (Click told), why, refl)
+chain_fault c held J memory (Some text) before after (fault.Chain told) read why = inl (Err (fault.Chain told), why, refl)
+chain_fault c held J memory (Some text) before after (Unbuilt file.Chain) read why = inl (Err (Unbuilt file.Chain), why, refl)
+chain_fault c held J memory told before after (Read file.Chain) read why = inr (read why)
+chain_fault c held J memory told before after Memory read why = inr memory
+chain_fault c held J memory told before after f read why = absurd why
+
+-- ---- whole runs
+
+module _ (laws : OneAnswer) (words : List (List ℕ)) (old new : State) (c : RunView) (is : IsCommand words c) where
+  abbrev Or : Fault → Type 0
+  Or f = IsOwed c old.held f ⊎ IsInterruption words c old new f
+
+  either : (A B J : Type 0) → (A → B) → A ⊎ J → B ⊎ J
+  either A B J f h = elim h [
+    | inl a ↦ inl (f a)
+    | inr j ↦ inr j
   ]
 
--- ---- faults
+  -- from a chain that was read
+  read_so : (f : Fault) (chain : ChainState) → IsAtChain words old.held c chain → ChainOwes chain c old.held f ⊎ IsInterruption words c old new f → Or f
+  read_so f chain stands h = either _ _ _ (chain_owes c old.held f chain (old.held c.chain) stands.chain_is) h
 
-module _ (J : Fault → Type 0) (memory : J Memory) where
-  chain_fault : (told : Told) (before after : ℕ) (words : Words) (held : Held) (fault : Fault) → (Rose before after → J (Read file.Chain)) → IsChainFault told before after fault → Owes told words held fault ⊎ J fault
-  chain_fault None before after words held fault read why = inl tt
-  chain_fault (Some text) before after words held (TooLong file.Chain) read why = inl (Err (TooLong file.Chain), why, refl)
-  chain_fault (Some text) before after words held (Click told) read why = inl (Err (Click told), why, refl)
-  chain_fault (Some text) before after words held (fault.Chain told) read why = inl (Err (fault.Chain told), why, refl)
-  chain_fault (Some text) before after words held (Unbuilt file.Chain) read why = inl (Err (Unbuilt file.Chain), why, refl)
-  chain_fault (Some text) before after words held (Read file.Chain) read why = inr (read why)
-  chain_fault (Some text) before after words held Memory read why = inr memory
-  chain_fault (Some text) before after words held fault read why = absurd why
+  bound_so : (f : Fault) (chain : ChainState) (bound : List BoundView) → IsAtScript words old.held c chain bound
+      → IfSome (old.held c.script) (λ text. ScriptOwes text old.held (inputs_of chain bound) f) ⊎ IsInterruption words c old new f → Or f
+  bound_so f chain bound stands h = read_so f chain stands.before (either _ _ _ (bound_owes laws c chain old.held f bound stands.are_bound) h)
 
-  not_empty : (text : List ℕ) (capture : Told) → 0 < length text → Answers (script_due text capture) (Unbuilt file.Script) (J (Unbuilt file.Script))
-  not_empty [] capture some = absurd (omega arith)
-  not_empty (byte ∷ more) capture some = inl refl
+  idle_so : (f : Fault) (chain : ChainState) (bound : List BoundView) → IsAtCaptures words old.held c chain bound → OweAll old.held (inputs_of chain bound) f ⊎ IsInterruption words c old new f → Or f
+  idle_so f chain bound stands h = bound_so f chain bound stands.before (either _ _ _ (idle_owes old.held (inputs_of chain bound) f (old.held c.script) stands.script) h)
 
-  script_fault : (told capture : Told) (before after : ℕ) (fault : Fault) → (Rose before after → J (Read file.Script)) → ScriptFault told before after fault
-      → Answers (option_and_then (λ s. script_due s capture) told) fault (J fault)
-  script_fault None capture before after fault read why = tt
-  script_fault (Some text) capture before after (Unbuilt file.Script) read why = not_empty text capture why
-  script_fault (Some text) capture before after (Read file.Script) read why = interrupts (script_due text capture) (Read file.Script) (J (Read file.Script)) (read why)
-  script_fault (Some text) capture before after Memory read why = interrupts (script_due text capture) Memory (J Memory) memory
-  script_fault (Some text) capture before after fault read why = absurd why
+  output_so : (f : Fault) (chain : ChainState) (bound : List BoundView) → IsAtScript words old.held c chain bound → OutputFault (outputs_of bound) old.failed_writes new.failed_writes f → IsInterruption words c old new f
+  output_so (Write (file.Output device)) chain bound stands why = (chain, bound, stands, why)
+  output_so Memory chain bound stands why = tt
+  output_so f chain bound stands why = absurd why
 
-  capture_fault : (told : Told) (before after : ℕ) (fault : Fault) → ((device : ℕ) → device ≡ 1 → Rose before after → J (Read (file.Capture device))) → CaptureFault told before after fault
-      → Answers (option_map capture_due told) fault (J fault)
-  capture_fault None before after fault read why = tt
-  capture_fault (Some bytes) before after (TooLong (file.Capture device)) read why =
-      inl (ap (λ n. TooLong (file.Capture n)) why.0 ∙ sym (too_long bytes (end_of (captures.capture_of bytes).end) why.1))
-  capture_fault (Some bytes) before after (Capture device reason) read why =
-      inl (ap (λ n. Capture n reason) why.0 ∙ sym (not_too_long bytes (end_of (captures.capture_of bytes).end) why.1.ends.0 ∙ ap end_of why.1.ends.1))
-  capture_fault (Some bytes) before after (Read (file.Capture device)) read why = inr (read device why.0 why.1)
-  capture_fault (Some bytes) before after Memory read why = inr memory
-  capture_fault (Some bytes) before after fault read why = absurd why
+  capture_so : (f : Fault) (chain : ChainState) (bound : List BoundView) → IsAtScript words old.held c chain bound → CaptureFault old.held (inputs_of chain bound) old.failed_reads new.failed_reads f
+      → OweAll old.held (inputs_of chain bound) f ⊎ IsInterruption words c old new f
+  capture_so (CaptureTold device why) chain bound stands h = inl (refused_owe old.held (inputs_of chain bound) (CaptureTold device why) device why h refl)
+  capture_so (Read (file.Capture device)) chain bound stands h = inr (chain, bound, stands, h)
+  capture_so Memory chain bound stands h = inr tt
+  capture_so f chain bound stands h = absurd h
 
-  serve_fault : (answer : Option Fault) (device before after : ℕ) (fault : Fault) → ((number : ℕ) → Rose before after → J (Write (file.Output number))) → ServeFault device before after fault
-      → Answers answer fault (J fault)
-  serve_fault answer device before after (Write (file.Output number)) write why = interrupts answer (Write (file.Output number)) (J (Write (file.Output number))) (write number why.1)
-  serve_fault answer device before after Memory write why = interrupts answer Memory (J Memory) memory
-  serve_fault answer device before after fault write why = absurd why
+  run_so : (f : Fault) (order picks : List ℕ) (chain : ChainState) (bound : List BoundView) → IsAtCaptures words old.held c chain bound → IsRunOf chain bound old new order picks f
+      → OweAll old.held (inputs_of chain bound) f ⊎ IsInterruption words c old new f
+  run_so f order picks chain bound stands (capture_refused why u) = capture_so f chain bound stands.before why
+  run_so f order picks chain bound stands (ended frames fates end begin merged sound is run wrote) = inl (ended_owe old.held (inputs_of chain bound) f frames end begin merged is)
+  run_so f order picks chain bound stands (input_failed frames fates device begin front is rose run wrote) =
+      inr (subst (λ g. IsInterruption words c old new g) (sym is) (chain, bound, stands.before, rose))
+  run_so f order picks chain bound stands (broken_off frames fates begin front why run wrote) = inr (output_so f chain bound stands.before why)
 
--- ---- the whole
+  same_command : (d : RunView) → IsCommand words d → d ≡ c
+  same_command d other = laws.command words d c other is
 
--- what is known of a command holds of the words
-pub of_command : (words : List (List ℕ)) (old new : State) (fault : Fault) (c : Words) → command_of words ≡ Some c → IsExact (Some c) old new fault → IsExact (command_of words) old new fault
-of_command words old new fault c is exact_here = subst (λ (o : Option Words). IsExact o old new fault) (sym is) exact_here
+  refusal_so : (f : Fault) → IsRefusal words old new f → Or f
+  refusal_so f (no_memory memory) = inr (subst (λ g. IsInterruption words c old new g) (sym memory) tt)
+  refusal_so f (no_command n first usage) = absurd (laws.not_both words n c first is)
+  refusal_so f (chain_refused d other why) =
+      chain_fault c old.held (λ g. IsInterruption words c old new g) tt (old.held c.chain) (old.failed_reads c.chain) (new.failed_reads c.chain) f (λ rose. rose)
+      (subst (λ (e : RunView). IsChainFault (old.held e.chain) (old.failed_reads e.chain) (new.failed_reads e.chain) f) (same_command d other) why)
+  refusal_so f (not_bound d chain stands why) =
+      let same = same_command d stands.words_are in
+      read_so f chain (subst (λ (e : RunView). IsAtChain words old.held e chain) same stands)
+      (unbound_owes laws c chain old.held (λ g. IsInterruption words c old new g) tt f (subst (λ (e : RunView). BindCause e.bindings (devices_of chain) f) same why))
+  refusal_so f (script_refused d chain bound stands why) =
+      let same = same_command d stands.before.words_are in
+      bound_so f chain bound (subst (λ (e : RunView). IsAtScript words old.held e chain bound) same stands)
+      (script_owes old.held (inputs_of chain bound) (λ g. IsInterruption words c old new g) tt f (old.held c.script) (old.failed_reads c.script) (new.failed_reads c.script) (λ rose. rose)
+      (subst (λ (e : RunView). ScriptFault (old.held e.script) (old.failed_reads e.script) (new.failed_reads e.script) f) same why))
 
-pub exact : (words : List (List ℕ)) (old new : State) (order : List ℕ) (fault : Fault) → IsRun words old new order fault → IsExact (command_of words) old new fault
-exact words old new order fault (no_command none is untouched) = subst (λ (o : Option Words). IsExact o old new fault) (sym none) is
-exact words old new order fault (chain_refused c is why untouched) =
-    of_command words old new fault c is (chain_fault (λ f. IsInterruption old new f c) tt (old.held c.chain) _ _ c old.held fault (λ rose. rose) why)
-exact words old new order fault (not_bound c chain stands unbound is untouched) =
-    of_command words old new fault c stands.words_are
-    (at_chain fault (IsInterruption old new fault c) (old.held c.chain) chain c old.held stands.chain_is (at_unbound fault (IsInterruption old new fault c) chain c old.held unbound is))
-exact words old new order fault (script_refused c chain stands why untouched) =
-    of_command words old new fault c stands.before.words_are
-    (at_chain fault (IsInterruption old new fault c) (old.held c.chain) chain c old.held stands.before.chain_is
-    (at_bound fault (IsInterruption old new fault c) chain c old.held stands.bound
-    (script_fault (λ f. IsInterruption old new f c) tt (old.held c.script) (old.held c.capture) _ _ fault (λ rose. rose) why)))
-exact words old new order fault (capture_refused c chain stands why untouched) =
-    of_command words old new fault c stands.before.before.words_are
-    (at_chain fault (IsInterruption old new fault c) (old.held c.chain) chain c old.held stands.before.before.chain_is
-    (at_bound fault (IsInterruption old new fault c) chain c old.held stands.before.bound
-    (at_script fault (IsInterruption old new fault c) (old.held c.script) (old.held c.capture) stands.script
-    (capture_fault (λ f. IsInterruption old new f c) tt (old.held c.capture) _ _ fault (λ device one rose. (one, rose)) why))))
-exact words old new order fault (broken_off c chain capture stands why others served) =
-    of_command words old new fault c stands.before.before.before.words_are
-    (at_chain fault (IsInterruption old new fault c) (old.held c.chain) chain c old.held stands.before.before.before.chain_is
-    (serve_fault (λ f. IsInterruption old new f c) tt (bound_due chain c old.held) _ _ _ fault (λ number rose. rose) why))
-exact words old new order fault (ended c chain capture stands is others served) =
-    of_command words old new fault c stands.before.before.before.words_are
-    (at_chain fault (IsInterruption old new fault c) (old.held c.chain) chain c old.held stands.before.before.before.chain_is
-    (at_bound fault (IsInterruption old new fault c) chain c old.held stands.before.before.bound
-    (at_script fault (IsInterruption old new fault c) (old.held c.script) (old.held c.capture) stands.before.script
-    (at_capture_done fault (IsInterruption old new fault c) (old.held c.capture) capture stands.capture_is is))))
+  pub command_so : (f : Fault) (order picks : List ℕ) → IsRun words old new order picks f → Or f
+  command_so f order picks (refused why u) = refusal_so f why
+  command_so f order picks (ran d chain bound stands run) =
+      let same = same_command d stands.before.before.words_are in
+      let here : IsAtCaptures words old.held c chain bound = subst (λ (e : RunView). IsAtCaptures words old.held e chain bound) same stands in
+      idle_so f chain bound here (run_so f order picks chain bound here run)
 
--- ---- what follows
+module _ (laws : OneAnswer) (words : List (List ℕ)) (old new : State) where
+  usage_so : (f : Fault) (order picks : List ℕ) (n : ℕ) → IsFirstAtFault words n → IsRun words old new order picks f → (f ≡ UsageWord n) ⊎ (f ≡ Memory)
+  usage_so f order picks n first (refused (no_memory memory) u) = inr memory
+  usage_so f order picks n first (refused (no_command m other is) u) = inl (is ∙ ap UsageWord (laws.first words m n other first))
+  usage_so f order picks n first (refused (chain_refused c is why) u) = absurd (laws.not_both words n c first is)
+  usage_so f order picks n first (refused (not_bound c chain stands why) u) = absurd (laws.not_both words n c first stands.words_are)
+  usage_so f order picks n first (refused (script_refused c chain bound stands why) u) = absurd (laws.not_both words n c first stands.before.words_are)
+  usage_so f order picks n first (ran c chain bound stands run) = absurd (laws.not_both words n c first stands.before.before.words_are)
 
-only_memory : (old new : State) (c : Words) (fault : Fault) → NoneFailed old new → IsInterruption old new fault c → fault ≡ Memory
-only_memory old new c (Read file.Chain) none i = absurd (none.reads c.chain i)
-only_memory old new c (Read file.Script) none i = absurd (none.reads c.script i)
-only_memory old new c (Read (file.Capture device)) none i = absurd (none.reads c.capture i.1)
-only_memory old new c (Write (file.Output device)) none i = absurd (none.writes c.output i)
-only_memory old new c Memory none i = refl
-only_memory old new c fault none i = absurd i
+  pub exact : (f : Fault) (order picks : List ℕ) → IsRun words old new order picks f → IsExact words old new f
+  exact f order picks run = record {
+    usage = λ n first. usage_so f order picks n first run;
+    command = λ c is. command_so laws words old new c is f order picks run;
+  }
 
-pub answered : (command : Option Words) (old new : State) (fault : Fault) → NoneFailed old new → IsExact command old new fault → IsComplete command old.held fault
-answered None old new fault none given = given
-answered (Some c) old new fault none given = ⊎_elim inl (λ i. inr (only_memory old new c fault none i)) given
+  -- without a failed file there is no interruption but want of memory
+  none_rose : (c : RunView) → NoneFailed old new → (f : Fault) → IsInterruption words c old new f → f ≡ Memory
+  none_rose c none (Read file.Chain) h = absurd (none.reads c.chain h)
+  none_rose c none (Read file.Script) h = absurd (none.reads c.script h)
+  none_rose c none (Read (file.Capture device)) h = absurd (none.reads h.3.name h.3.rose)
+  none_rose c none (Write (file.Output device)) h = absurd (none.writes h.3.name h.3.rose)
+  none_rose c none Memory h = refl
+  none_rose c none f h = absurd h
 
-pub complete : (words : List (List ℕ)) (old new : State) (order : List ℕ) (fault : Fault) → IsRun words old new order fault → NoneFailed old new → IsComplete (command_of words) old.held fault
-complete words old new order fault run none = answered (command_of words) old new fault none (exact words old new order fault run)
+  pub complete : (f : Fault) → IsExact words old new f → NoneFailed old new → IsComplete words old.held f
+  complete f exact none = record {
+    usage = exact.usage;
+    command = λ c is. elim (exact.command c is) [
+      | inl owed ↦ inl owed
+      | inr interrupted ↦ inr (none_rose c none f interrupted)
+    ];
+  }
 
-ends_sound : (end : Option PcapFault) → Done ≡ end_of end → end ≡ None
-ends_sound None is = refl
-ends_sound (Some why) is = cc
+-- ---- runs that are done, and runs that end early
 
-pub finished : (words : List (List ℕ)) (old new : State) (order : List ℕ) (fault : Fault) → IsRun words old new order fault → fault ≡ Done → IsFinished words old new order
-finished words old new order fault (no_command none is untouched) done = cc
-finished words old new order fault (chain_refused c is why untouched) done = absurd (subst (λ f. IsChainFault (old.held c.chain) (old.failed_reads c.chain) (new.failed_reads c.chain) f) done why)
-finished words old new order fault (not_bound c chain stands unbound is untouched) done = cc
-finished words old new order fault (script_refused c chain stands why untouched) done = absurd (subst (λ f. ScriptFault (old.held c.script) (old.failed_reads c.script) (new.failed_reads c.script) f) done why)
-finished words old new order fault (capture_refused c chain stands why untouched) done = absurd (subst (λ f. CaptureFault (old.held c.capture) (old.failed_reads c.capture) (new.failed_reads c.capture) f) done why)
-finished words old new order fault (broken_off c chain capture stands why others served) done = absurd (subst (λ f. ServeFault (output_device chain) (old.failed_writes c.output) (new.failed_writes c.output) f) done why)
-finished words old new order fault (ended c chain capture stands is others served) done =
-    record { command = c; chain = chain; capture = capture; stands = stands; sound = ends_sound capture.end (sym done ∙ is); others = others; served = served }
+refusal_not_done : (words : List (List ℕ)) (old new : State) → IsRefusal words old new Done → ⊥
+refusal_not_done words old new (no_memory is) = cc
+refusal_not_done words old new (no_command n first is) = cc
+refusal_not_done words old new (chain_refused c is why) = why
+refusal_not_done words old new (not_bound c chain stands why) = why
+refusal_not_done words old new (script_refused c chain bound stands why) = why
 
-never_serving : (device before after : ℕ) (fault : Fault) → ServeFault device before after fault → IsEarly fault → ⊥
-never_serving device before after (Write (file.Output number)) why early = early
-never_serving device before after Memory why early = early
-never_serving device before after fault why early = why
+end_done : (end : MergedEnd) → Done ≡ fault_of end → end ≡ merges.Done
+end_done merges.Done is = refl
+end_done (merges.Fault device why) is = cc
+end_done (merges.Frames count) is = cc
 
-never_at_end : (end : Option PcapFault) → is_no_header end ≡ false → IsEarly (end_of end) → ⊥
-never_at_end None begins early = early
-never_at_end (Some why) begins early = let contra : true ≡ false = sym early ∙ begins in cc
+done_so : (words : List (List ℕ)) (old new : State) (order picks : List ℕ) → IsRun words old new order picks Done → IsFinished words old new order picks
+done_so words old new order picks (refused why u) = absurd (refusal_not_done words old new why)
+done_so words old new order picks (ran c chain bound stands (capture_refused why u)) = absurd why
+done_so words old new order picks (ran c chain bound stands (ended frames fates end begin merged sound is run wrote)) = record {
+  command = c;
+  chain = chain;
+  bound = bound;
+  stands = stands;
+  frames = frames;
+  merged = subst (λ (e : MergedEnd). IfSome (captures_in old.held (inputs_of chain bound)) (λ cs. merge_of cs ≡ record { frames = frames; end = e })) (end_done end is) merged;
+  fates = fates;
+  run = run;
+  wrote = wrote;
+}
+done_so words old new order picks (ran c chain bound stands (input_failed frames fates device begin front is rose run wrote)) = cc
+done_so words old new order picks (ran c chain bound stands (broken_off frames fates begin front why run wrote)) = absurd why
 
-pub early : (words : List (List ℕ)) (old new : State) (order : List ℕ) (fault : Fault) → IsRun words old new order fault → IsEarly fault → IsUntouched old new order
-early words old new order fault (no_command none is untouched) e = untouched
-early words old new order fault (chain_refused c is why untouched) e = untouched
-early words old new order fault (not_bound c chain stands unbound is untouched) e = untouched
-early words old new order fault (script_refused c chain stands why untouched) e = untouched
-early words old new order fault (capture_refused c chain stands why untouched) e = untouched
-early words old new order fault (broken_off c chain capture stands why others served) e = absurd (never_serving _ _ _ fault why e)
-early words old new order fault (ended c chain capture stands is others served) e = absurd (never_at_end capture.end stands.capture_is.begins (subst IsEarly is e))
+pub finished : (words : List (List ℕ)) (old new : State) (order picks : List ℕ) (f : Fault) → IsRun words old new order picks f → f ≡ Done → IsFinished words old new order picks
+finished words old new order picks f run done = done_so words old new order picks (subst (λ g. IsRun words old new order picks g) done run)
 
-pub moved : (words : List (List ℕ)) (old new : State) (order order' : List ℕ) (fault fault' : Fault) → fault' ≡ fault → order' ≡ order → IsRun words old new order fault → IsRun words old new order' fault'
-moved words old new order order' fault fault' same same_order run =
-    subst (λ f. IsRun words old new order' f) (sym same) (subst (λ (o : List ℕ). IsRun words old new o fault) (sym same_order) run)
+record_is_late : (why : PcapFault) (device : ℕ) → IsEnd (merges.Fault device why) → is_header_fault (Some why) ≡ true → ⊥
+record_is_late (BadRecord offset) device sound early = cc
+record_is_late (Torn offset) device sound early = cc
+record_is_late why device sound early = sound
+
+late_end : (end : MergedEnd) → IsEnd end → IsEarly (fault_of end) → ⊥
+late_end merges.Done sound early = early
+late_end (merges.Fault device why) sound early = record_is_late why device sound early
+late_end (merges.Frames count) sound early = early
+
+late_output : (outputs : List Told) (old new : List ℕ → ℕ) (f : Fault) → OutputFault outputs old new f → IsEarly f → ⊥
+late_output outputs old new (Write (file.Output device)) why early = early
+late_output outputs old new Memory why early = early
+late_output outputs old new f why early = why
+
+pub early : (words : List (List ℕ)) (old new : State) (order picks : List ℕ) (f : Fault) → IsRun words old new order picks f → IsEarly f → IsUntouched old new order picks
+early words old new order picks f (refused why u) e = u
+early words old new order picks f (ran c chain bound stands (capture_refused why u)) e = u
+early words old new order picks f (ran c chain bound stands (ended frames fates end begin merged sound is run wrote)) e = absurd (late_end end sound (subst IsEarly is e))
+early words old new order picks f (ran c chain bound stands (input_failed frames fates device begin front is rose run wrote)) e = absurd (subst IsEarly is e)
+early words old new order picks f (ran c chain bound stands (broken_off frames fates begin front why run wrote)) e = absurd (late_output (outputs_of bound) old.failed_writes new.failed_writes f why e)
+
+pub moved : (words : List (List ℕ)) (old new : State) (order order' picks picks' : List ℕ) (f f' : Fault) → f' ≡ f → order' ≡ order → picks' ≡ picks → IsRun words old new order picks f → IsRun words old new order' picks' f'
+moved words old new order order' picks picks' f f' same same_order same_picks run =
+    subst (λ g. IsRun words old new order' picks' g) (sym same)
+    (subst (λ (o : List ℕ). IsRun words old new o picks' f) (sym same_order) (subst (λ (p : List ℕ). IsRun words old new order p f) (sym same_picks) run))

@@ -1,6 +1,12 @@
-mod Names
-mod Texts
-mod Runs
+mod Orders
+mod Outputs
+mod Served
+mod Frames
+mod Files
+mod Begun
+mod Passes
+mod Stages
 mod Exact
 mod Finished
-mod Simple
+mod Commands
+mod Names

@@ -2,40 +2,26 @@
 --
 -- What the files hold when the call begins is told or not, file by file. Where it is not told, nothing is
 -- said of it.
-use Rattle.std.specs.Prelude.{◌≡◌, ℕ, ◌-◌, Bool, true, false, ◌&&◌, List, [], length, Option, Some, None, slice_get}
-use Rattle.std.specs.Str.{bytes_eq}
-use Rattle.mt_io.specs.Files.{IsSame, IsSameBut}
+use Rattle.std.specs.Prelude.{◌≡◌, ℕ, List, [], length, Some, ⊤}
+use Rattle.mt_io.specs.Files.{IsSame}
+use Rattle.mt_packet.specs.declared.frame.Stamped.{Stamped}
+use Rattle.mt_pcap.specs.Merge.{MergedEnd}
+use Rattle.mt_pcap.specs.Merged.{IsWholeMerge, IsBrokenMerge}
 use Rattle.mt_elements.specs.ChainState.{ChainState}
-use Rattle.mt_pcap.specs.declared.fault.PcapFault.{PcapFault}
-use Rattle.mt_pcap.specs.Capture as captures
-use Rattle.metron.specs.Command.{Words, command_of}
-use Rattle.metron.specs.Inputs.{Told, IsChainRead, IsScriptRead, IsCaptureRead, IsChainFault, ScriptFault, CaptureFault}
-use Rattle.metron.specs.Serving.{HasServed, HasServedSome, ServeFault}
+use Rattle.mt_chain.specs.Sequence.{run_all}
+use Rattle.mt_chain.specs.declared.run.Fate.{Fate}
+use Rattle.mt_command.specs.Parts.{RunView, BindingView, DeviceView, BoundView}
+use Rattle.mt_command.specs.Command.{IsCommand, IsFirstAtFault}
+use Rattle.mt_command.specs.Devices.{IsFirstUnfit, IsFirstUnbound, AreBound}
+use Rattle.metron.specs.Fates.{packets_of, device_text}
+use Rattle.metron.specs.Order.{KeepsOrder, in_order, numbers}
+use Rattle.metron.specs.Inputs.{IsChainRead, IsChainFault, devices_of, inputs_of, outputs_of, IsScriptRead, ScriptFault, BeginWell, CaptureFault}
+use Rattle.metron.specs.Serving.{Held, Outputs, AllGain, AllGainFront, IsSameElsewhere, OutputFault, HasInputRisen, fault_of, IsEnd, AreFirst}
+use Rattle.metron.specs.declared.outcome.FileId.TheVariants as file
 use Rattle.metron.specs.declared.outcome.Fault.{Fault}
-use Rattle.metron.specs.declared.outcome.Fault.TheVariants.{Done, UsageWord, Capture}
-
--- ---- devices
-
-abbrev pub is_named : Option (List ℕ) → List ℕ → Bool
-is_named (Some found) name = bytes_eq found name
-is_named None name = false
-
--- whether a chain's device of this number, from 1, has this name
-abbrev pub is_device : ChainState → ℕ → List ℕ → Bool
-is_device chain number name = is_named (slice_get chain.devices (number - 1)) name
-
--- Frames arrive on device 1, and are sent on the last.
-abbrev pub output_device : ChainState → ℕ
-output_device chain = length chain.devices
-
--- the command binds each device of the chain
-unfoldable pub binds : ChainState → Words → Bool
-binds chain words = is_device chain 1 words.device && is_device chain (output_device chain) words.out
+use Rattle.metron.specs.declared.outcome.Fault.TheVariants.{UsageWord, Unbound, Read, Memory}
 
 -- ---- what is told of the files
-
-abbrev pub Held : Type 0
-Held = List ℕ → Told
 
 -- what the files hold to be read, what was written to them, and how often reads and writes of them have failed
 pub record State : Type 0 where
@@ -50,66 +36,98 @@ state_of held written failed_reads failed_writes files = record { held = held fi
 -- ---- how far a run came
 
 -- the words are this command, and the chain's file has the text of this chain
-pub record IsAtChain (words : List (List ℕ)) (held : Held) (command : Words) (chain : ChainState) : Type 0 where
-  pub words_are : command_of words ≡ Some command
+pub record IsAtChain (words : List (List ℕ)) (held : Held) (command : RunView) (chain : ChainState) : Type 0 where
+  pub words_are : IsCommand words command
   pub chain_is : IsChainRead (held command.chain) chain
 
--- besides, each device is bound
-pub record IsAtScript (words : List (List ℕ)) (held : Held) (command : Words) (chain : ChainState) : Type 0 where
+-- besides, each device has its files
+pub record IsAtScript (words : List (List ℕ)) (held : Held) (command : RunView) (chain : ChainState) (bound : List BoundView) : Type 0 where
   pub before : IsAtChain words held command chain
-  pub bound : binds chain command ≡ true
+  pub are_bound : AreBound command.bindings (devices_of chain) bound
 
--- besides, the script can be run
-pub record IsAtCapture (words : List (List ℕ)) (held : Held) (command : Words) (chain : ChainState) : Type 0 where
-  pub before : IsAtScript words held command chain
+-- besides, the script has no command
+pub record IsAtCaptures (words : List (List ℕ)) (held : Held) (command : RunView) (chain : ChainState) (bound : List BoundView) : Type 0 where
+  pub before : IsAtScript words held command chain bound
   pub script : IsScriptRead (held command.script)
 
--- besides, the file of the capture stands for this capture, and begins with a header
-pub record IsAtRun (words : List (List ℕ)) (held : Held) (command : Words) (chain : ChainState) (capture : captures.Capture) : Type 0 where
-  pub before : IsAtCapture words held command chain
-  pub capture_is : IsCaptureRead (held command.capture) capture
-
--- ---- the whole run
+-- ---- runs that end before a capture is opened
 
 -- nothing was written, and no frame was served
-pub record IsUntouched (old new : State) (order : List ℕ) : Type 0 where
+pub record IsUntouched (old new : State) (order picks : List ℕ) : Type 0 where
   pub written : IsSame old.written new.written
   pub none_served : order ≡ []
+  pub none_picked : picks ≡ []
 
--- how a run ends whose frames were all served
-abbrev pub end_of : Option PcapFault → Fault
-end_of None = Done
-end_of (Some why) = Capture 1 why
+-- why not all devices have their files
+abbrev pub BindCause : List BindingView → List DeviceView → Fault → Type 0
+BindCause bindings devices (UsageWord n) = IsFirstUnfit bindings devices n
+BindCause bindings devices (Unbound device) = IsFirstUnbound bindings devices device
+BindCause bindings devices Memory = ⊤
+BindCause bindings devices fault = ⊥
+
+-- It is looked at the words, the chain, its devices and the script, in this order.
+pub data IsRefusal (words : List (List ℕ)) (old new : State) (fault : Fault) : Type 0 where
+  no_memory : fault ≡ Memory → IsRefusal words old new fault
+  no_command : (n : ℕ) → IsFirstAtFault words n → fault ≡ UsageWord n → IsRefusal words old new fault
+  chain_refused :
+      (command : RunView) → IsCommand words command
+      → IsChainFault (old.held command.chain) (old.failed_reads command.chain) (new.failed_reads command.chain) fault
+      → IsRefusal words old new fault
+  not_bound :
+      (command : RunView) (chain : ChainState) → IsAtChain words old.held command chain → BindCause command.bindings (devices_of chain) fault
+      → IsRefusal words old new fault
+  script_refused :
+      (command : RunView) (chain : ChainState) (bound : List BoundView) → IsAtScript words old.held command chain bound
+      → ScriptFault (old.held command.script) (old.failed_reads command.script) (new.failed_reads command.script) fault
+      → IsRefusal words old new fault
+
+-- ---- runs
+
+-- Frames were served in an order that keeps the order of each flow, today in the order of their numbers. The chain,
+-- run element by element on them in that order, with these ports picked, gives these fates.
+pub record HasRun (chain : ChainState) (frames : List Stamped) (order picks : List ℕ) (fates : List Fate) : Type 0 where
+  pub served : List Stamped
+  pub in_order : in_order order frames ≡ Some served
+  pub keeps : KeepsOrder frames order
+  pub in_turn : order ≡ numbers (length frames)
+  pub run : run_all chain (packets_of served) picks ≡ Some fates
+
+-- The file of each device gained the text of what is sent on it (R is `AllGain`), or a front of it (`AllGainFront`),
+-- and no other file was written.
+pub record HasWritten (R : Outputs → Held → Held → (ℕ → List ℕ) → Type 0) (bound : List BoundView) (old new : State) (fates : List Fate) : Type 0 where
+  pub written : R (outputs_of bound) old.written new.written (λ device. device_text device fates)
+  pub others : IsSameElsewhere (outputs_of bound) old.written new.written
+
+-- each capture begins with a header
+abbrev pub AllBegin : Held → List (List ℕ) → Type 0
+AllBegin held names = BeginWell held names (length names)
+
+-- A run through a chain whose devices have these files: the captures are opened, the outputs are begun, and then
+-- frame after frame is served.
+pub data IsRunOf (chain : ChainState) (bound : List BoundView) (old new : State) (order picks : List ℕ) (fault : Fault) : Type 0 where
+  capture_refused : CaptureFault old.held (inputs_of chain bound) old.failed_reads new.failed_reads fault → IsUntouched old new order picks → IsRunOf chain bound old new order picks fault
+  ended :
+      (frames : List Stamped) (fates : List Fate) (end : MergedEnd)
+      → AllBegin old.held (inputs_of chain bound) → IsWholeMerge (inputs_of chain bound) old.held frames end → IsEnd end → fault ≡ fault_of end
+      → HasRun chain frames order picks fates → HasWritten AllGain bound old new fates
+      → IsRunOf chain bound old new order picks fault
+  input_failed :
+      (frames : List Stamped) (fates : List Fate) (device : ℕ)
+      → AllBegin old.held (inputs_of chain bound) → IsBrokenMerge (inputs_of chain bound) old.held new.held frames device
+      → fault ≡ Read (file.Capture device) → HasInputRisen (inputs_of chain bound) device old.failed_reads new.failed_reads
+      → HasRun chain frames order picks fates → HasWritten AllGain bound old new fates
+      → IsRunOf chain bound old new order picks fault
+  broken_off :
+      (frames : List Stamped) (fates : List Fate)
+      → AllBegin old.held (inputs_of chain bound) → AreFirst (inputs_of chain bound) old.held frames
+      → OutputFault (outputs_of bound) old.failed_writes new.failed_writes fault
+      → HasRun chain frames order picks fates → HasWritten AllGainFront bound old new fates
+      → IsRunOf chain bound old new order picks fault
 
 -- A run from the old state of the files to the new one, in which the frames of these numbers were served in this
--- order, and which ended with this fault. It looks at the words, at the chain, at its devices, at the script and at
--- the capture, in this order, and then serves the records.
-pub data IsRun (words : List (List ℕ)) (old new : State) (order : List ℕ) (fault : Fault) : Type 0 where
-  no_command : command_of words ≡ None → fault ≡ UsageWord 0 → IsUntouched old new order → IsRun words old new order fault
-  chain_refused :
-      (command : Words) → command_of words ≡ Some command
-      → IsChainFault (old.held command.chain) (old.failed_reads command.chain) (new.failed_reads command.chain) fault
-      → IsUntouched old new order → IsRun words old new order fault
-  not_bound :
-      (command : Words) (chain : ChainState) → IsAtChain words old.held command chain → binds chain command ≡ false → fault ≡ UsageWord 0
-      → IsUntouched old new order → IsRun words old new order fault
-  script_refused :
-      (command : Words) (chain : ChainState) → IsAtScript words old.held command chain
-      → ScriptFault (old.held command.script) (old.failed_reads command.script) (new.failed_reads command.script) fault
-      → IsUntouched old new order → IsRun words old new order fault
-  capture_refused :
-      (command : Words) (chain : ChainState) → IsAtCapture words old.held command chain
-      → CaptureFault (old.held command.capture) (old.failed_reads command.capture) (new.failed_reads command.capture) fault
-      → IsUntouched old new order → IsRun words old new order fault
-  broken_off :
-      (command : Words) (chain : ChainState) (capture : captures.Capture) → IsAtRun words old.held command chain capture
-      → ServeFault (output_device chain) (old.failed_writes command.output) (new.failed_writes command.output) fault
-      → IsSameBut command.output old.written new.written
-      → HasServedSome (output_device chain) chain capture.records (old.written command.output) (new.written command.output) order
-      → IsRun words old new order fault
-  ended :
-      (command : Words) (chain : ChainState) (capture : captures.Capture) → IsAtRun words old.held command chain capture
-      → fault ≡ end_of capture.end
-      → IsSameBut command.output old.written new.written
-      → HasServed (output_device chain) chain capture.records (old.written command.output) (new.written command.output) order
-      → IsRun words old new order fault
+-- order with these ports picked, and which ended with this fault.
+pub data IsRun (words : List (List ℕ)) (old new : State) (order picks : List ℕ) (fault : Fault) : Type 0 where
+  refused : IsRefusal words old new fault → IsUntouched old new order picks → IsRun words old new order picks fault
+  ran :
+      (command : RunView) (chain : ChainState) (bound : List BoundView) → IsAtCaptures words old.held command chain bound
+      → IsRunOf chain bound old new order picks fault → IsRun words old new order picks fault

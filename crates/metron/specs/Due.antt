@@ -1,59 +1,111 @@
 -- The answer that a run owes, by its words and by what the files hold; none where that is not told.
-use Rattle.std.specs.Prelude.{◌≡◌, ◌⊎◌, ℕ, nat_lt, if◌then◌else◌, true, List, [], ◌∷◌, length, Option, Some, None, Result, Ok, Err, option_map, option_and_then, IfSome, ⊤}
-use Rattle.mt_io.specs.Files.{Rose, IsSameBut}
-use Rattle.mt_elements.specs.ChainState.{ChainState}
+use Rattle.std.specs.Prelude.{◌≡◌, ◌⊎◌, ℕ, ◌+◌, nat_lt, Bool, true, false, List, [], ◌∷◌, length, position, slice_get, Option, Some, None, Result, Ok, Err, option_and_then, option_map, IfSome, ⊤}
+use Rattle.mt_io.specs.Files.{Rose}
+use Rattle.mt_packet.specs.declared.frame.Stamped.{Stamped}
 use Rattle.mt_pcap.specs.Capture as captures
-use Rattle.metron.specs.Command.{Words}
-use Rattle.metron.specs.Inputs.{Told, ReadsAs, capture_limit, is_no_header}
-use Rattle.metron.specs.Serving.{HasServed}
-use Rattle.metron.specs.Causes.{Held, State, binds, output_device, IsAtRun, end_of}
+use Rattle.mt_pcap.specs.Capture.{is_header_fault}
+use Rattle.mt_pcap.specs.Merge as merges
+use Rattle.mt_pcap.specs.Merged.{IsWholeMerge}
+use Rattle.mt_pcap.specs.Opened.{captures_in}
+use Rattle.mt_pcap.specs.Merge.{merge_of}
+use Rattle.mt_elements.specs.ChainState.{ChainState}
+use Rattle.mt_chain.specs.declared.run.Fate.{Fate}
+use Rattle.mt_script.specs.declared.command.Command.{Command}
+use Rattle.mt_script.specs.declared.fault.ScriptFault.{ScriptFault}
+use Rattle.mt_script.specs.Script.{commands_of}
+use Rattle.mt_command.specs.Parts.{RunView, BoundView}
+use Rattle.mt_command.specs.Command.{IsCommand, IsFirstAtFault}
+use Rattle.mt_command.specs.Devices.{IsFirstUnfit, IsFirstUnbound, AreBound}
+use Rattle.metron.specs.Inputs.{ReadsAs, text_limit, devices_of, inputs_of, outputs_of}
+use Rattle.metron.specs.Serving.{Held, AllGain, HasRisen, HasInputRisen, fault_of}
+use Rattle.metron.specs.Causes.{State, IsAtScript, IsAtCaptures, HasRun, HasWritten}
 use Rattle.metron.specs.declared.outcome.FileId.TheVariants as file
 use Rattle.metron.specs.declared.outcome.Fault.{Fault}
-use Rattle.metron.specs.declared.outcome.Fault.TheVariants.{UsageWord, Unbuilt, TooLong, Click, Capture, Read, Write, Memory}
+use Rattle.metron.specs.declared.outcome.Fault.TheVariants.{Done, UsageWord, Unbound, Unbuilt, TooLong, Click, Script, Capture, Read, Write, Memory}
 use Rattle.metron.specs.declared.outcome.Fault.TheVariants as fault
 
--- ---- the answer
+-- ---- captures
 
-abbrev pub capture_due : List ℕ → Fault
-capture_due bytes = if nat_lt capture_limit (length bytes) then TooLong (file.Capture 1) else end_of (captures.capture_of bytes).end
+-- the fault at the end of the capture of an index, as that of its device
+abbrev pub end_at : List captures.Capture → ℕ → Option Fault
+end_at all index = option_and_then (λ c. option_map (λ why. Capture (index + 1) why) c.end) (slice_get all index)
 
-abbrev pub script_due : List ℕ → Told → Option Fault
-script_due [] capture = option_map capture_due capture
-script_due (byte ∷ more) capture = Some (Unbuilt file.Script)
+-- the fault of the first capture that has no header
+abbrev pub header_due : List captures.Capture → Option Fault
+header_due all = option_and_then (end_at all) (position (λ (c : captures.Capture). is_header_fault c.end) all)
 
-abbrev pub bound_due : ChainState → Words → Held → Option Fault
-bound_due chain words held = if binds chain words then option_and_then (λ script. script_due script (held words.capture)) (held words.script) else Some (UsageWord 0)
+abbrev pub or_else : Option Fault → Fault → Fault
+or_else None other = other
+or_else (Some fault) other = fault
 
--- what a text that was read so owes
-abbrev pub reading_due : Result ChainState Fault → Words → Held → Option Fault
-reading_due (Ok chain) words held = bound_due chain words held
-reading_due (Err fault) words held = Some fault
+-- that fault, or else how the merge ends
+abbrev pub captures_due : List captures.Capture → Fault
+captures_due all = or_else (header_due all) (fault_of (merge_of all).end)
+
+-- ---- the script
+
+abbrev pub OweAll : Held → List (List ℕ) → Fault → Type 0
+OweAll held inputs fault = IfSome (captures_in held inputs) (λ all. fault ≡ captures_due all)
+
+abbrev pub CommandsOwe : Result (List Command) ScriptFault → Held → List (List ℕ) → Fault → Type 0
+CommandsOwe (Err told) held inputs fault = fault ≡ Script told
+CommandsOwe (Ok []) held inputs fault = OweAll held inputs fault
+CommandsOwe (Ok (command ∷ more)) held inputs fault = fault ≡ Unbuilt file.Script
+
+-- the text is too long, or has commands
+abbrev pub TextOwes : Bool → List ℕ → Held → List (List ℕ) → Fault → Type 0
+TextOwes true text held inputs fault = fault ≡ TooLong file.Script
+TextOwes false text held inputs fault = CommandsOwe (commands_of text) held inputs fault
+
+abbrev pub ScriptOwes : List ℕ → Held → List (List ℕ) → Fault → Type 0
+ScriptOwes text held inputs fault = TextOwes (nat_lt text_limit (length text)) text held inputs fault
+
+-- ---- the chain and its devices
+
+-- what a chain owes whose devices are bound, or not all are
+pub record ChainOwes (chain : ChainState) (command : RunView) (held : Held) (fault : Fault) : Type 0 where
+  pub unfit : (n : ℕ) → IsFirstUnfit command.bindings (devices_of chain) n → fault ≡ UsageWord n
+  pub unbound : (device : ℕ) → IsFirstUnbound command.bindings (devices_of chain) device → fault ≡ Unbound device
+  pub are_bound : (bound : List BoundView) → AreBound command.bindings (devices_of chain) bound → IfSome (held command.script) (λ text. ScriptOwes text held (inputs_of chain bound) fault)
+
+-- what a text that reads so owes
+abbrev pub ReadingOwes : Result ChainState Fault → RunView → Held → Fault → Type 0
+ReadingOwes (Ok chain) command held fault = ChainOwes chain command held fault
+ReadingOwes (Err due) command held fault = fault ≡ due
 
 -- A fault that a command owes, by what its files hold; nothing is said where that is not told.
-abbrev pub IsOwed : Words → Held → Fault → Type 0
-IsOwed words held fault =
-    IfSome (held words.chain) (λ text. (reading : Result ChainState Fault) × ReadsAs text reading × IfSome (reading_due reading words held) (λ answer. fault ≡ answer))
+abbrev pub IsOwed : RunView → Held → Fault → Type 0
+IsOwed command held fault = IfSome (held command.chain) (λ text. (reading : Result ChainState Fault) × ReadsAs text reading × ReadingOwes reading command held fault)
 
 -- ---- what may come in its place
 
+-- the file that a command binds to a device, as its capture or to be written
+abbrev pub InputRose : List (List ℕ) → RunView → State → State → ℕ → Type 0
+InputRose words command old new device =
+    (chain : ChainState) × (bound : List BoundView) × IsAtScript words old.held command chain bound × HasInputRisen (inputs_of chain bound) device old.failed_reads new.failed_reads
+
+abbrev pub OutputRose : List (List ℕ) → RunView → State → State → ℕ → Type 0
+OutputRose words command old new device =
+    (chain : ChainState) × (bound : List BoundView) × IsAtScript words old.held command chain bound × HasRisen (outputs_of bound) device old.failed_writes new.failed_writes
+
 -- a file of the command failed in this call, or there was no memory
-abbrev pub IsInterruption : State → State → Fault → Words → Type 0
-IsInterruption old new (Read file.Chain) c = Rose (old.failed_reads c.chain) (new.failed_reads c.chain)
-IsInterruption old new (Read file.Script) c = Rose (old.failed_reads c.script) (new.failed_reads c.script)
-IsInterruption old new (Read (file.Capture device)) c = (device ≡ 1) × Rose (old.failed_reads c.capture) (new.failed_reads c.capture)
-IsInterruption old new (Write (file.Output device)) c = Rose (old.failed_writes c.output) (new.failed_writes c.output)
-IsInterruption old new Memory c = ⊤
-IsInterruption old new fault c = ⊥
+abbrev pub IsInterruption : List (List ℕ) → RunView → State → State → Fault → Type 0
+IsInterruption words c old new (Read file.Chain) = Rose (old.failed_reads c.chain) (new.failed_reads c.chain)
+IsInterruption words c old new (Read file.Script) = Rose (old.failed_reads c.script) (new.failed_reads c.script)
+IsInterruption words c old new (Read (file.Capture device)) = InputRose words c old new device
+IsInterruption words c old new (Write (file.Output device)) = OutputRose words c old new device
+IsInterruption words c old new Memory = ⊤
+IsInterruption words c old new fault = ⊥
 
 -- The answer is the one that is due, unless a file of the command failed or there was no memory.
-abbrev pub IsExact : Option Words → State → State → Fault → Type 0
-IsExact None old new fault = fault ≡ UsageWord 0
-IsExact (Some words) old new fault = IsOwed words old.held fault ⊎ IsInterruption old new fault words
+pub record IsExact (words : List (List ℕ)) (old new : State) (fault : Fault) : Type 0 where
+  pub usage : (n : ℕ) → IsFirstAtFault words n → (fault ≡ UsageWord n) ⊎ (fault ≡ Memory)
+  pub command : (c : RunView) → IsCommand words c → IsOwed c old.held fault ⊎ IsInterruption words c old new fault
 
 -- Where no file failed, the answer is the one that is due, or there was no memory.
-abbrev pub IsComplete : Option Words → Held → Fault → Type 0
-IsComplete None held fault = fault ≡ UsageWord 0
-IsComplete (Some words) held fault = IsOwed words held fault ⊎ (fault ≡ Memory)
+pub record IsComplete (words : List (List ℕ)) (held : Held) (fault : Fault) : Type 0 where
+  pub usage : (n : ℕ) → IsFirstAtFault words n → (fault ≡ UsageWord n) ⊎ (fault ≡ Memory)
+  pub command : (c : RunView) → IsCommand words c → IsOwed c held fault ⊎ (fault ≡ Memory)
 
 -- no count of a file rose
 pub record NoneFailed (old new : State) : Type 0 where
@@ -62,23 +114,29 @@ pub record NoneFailed (old new : State) : Type 0 where
 
 -- ---- what is written
 
--- all frames of a whole capture were served in their order, and those sent are written behind what was written before
-pub record IsFinished (words : List (List ℕ)) (old new : State) (order : List ℕ) : Type 0 where
-  pub command : Words
+-- What was written is, device by device and in order, what the chain, run element by element with the ports that
+-- were picked, emits for all frames of the captures, in an order that keeps the order of each flow.
+pub record IsFinished (words : List (List ℕ)) (old new : State) (order picks : List ℕ) : Type 0 where
+  pub command : RunView
   pub chain : ChainState
-  pub capture : captures.Capture
-  pub stands : IsAtRun words old.held command chain capture
-  pub sound : capture.end ≡ None
-  pub others : IsSameBut command.output old.written new.written
-  pub served : HasServed (output_device chain) chain capture.records (old.written command.output) (new.written command.output) order
+  pub bound : List BoundView
+  pub stands : IsAtCaptures words old.held command chain bound
+  pub frames : List Stamped
+  pub merged : IsWholeMerge (inputs_of chain bound) old.held frames merges.Done
+  pub fates : List Fate
+  pub run : HasRun chain frames order picks fates
+  pub wrote : HasWritten AllGain bound old new fates
 
 -- faults that are met before anything is written
 abbrev pub IsEarly : Fault → Type 0
 IsEarly (UsageWord word) = ⊤
+IsEarly (Unbound device) = ⊤
 IsEarly (Unbuilt file) = ⊤
 IsEarly (TooLong file) = ⊤
 IsEarly (Click told) = ⊤
 IsEarly (fault.Chain told) = ⊤
-IsEarly (Read file) = ⊤
-IsEarly (Capture device why) = is_no_header (Some why) ≡ true
+IsEarly (Script told) = ⊤
+IsEarly (Read file.Chain) = ⊤
+IsEarly (Read file.Script) = ⊤
+IsEarly (Capture device why) = is_header_fault (Some why) ≡ true
 IsEarly fault = ⊥

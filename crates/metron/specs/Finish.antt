@@ -1,32 +1,47 @@
 -- A run through buffers, which has all written at its end.
-use Rattle.std.specs.Prelude.{◌≡◌, ◌⊎◌, ℕ, List, Some, ⊤}
-use Rattle.mt_io.specs.Files.{Rose}
+use Rattle.std.specs.Prelude.{◌≡◌, ◌⊎◌, ℕ, ◌+◌, List, [], Some, ⊤}
+use Rattle.mt_io.specs.Files.{IsSame, NeverFell}
 use Rattle.mt_io.specs.Buffers.{HasPending}
 use Rattle.mt_elements.specs.ChainState.{ChainState}
-use Rattle.metron.specs.Command.{Words, command_of}
-use Rattle.metron.specs.Causes.{Held, State, output_device, IsAtChain, IsRun}
+use Rattle.mt_command.specs.Parts.{RunView, BoundView}
+use Rattle.mt_command.specs.Command.{IsCommand}
+use Rattle.metron.specs.Inputs.{Told, outputs_of}
+use Rattle.metron.specs.Serving.{Held, Outputs, IsFile}
+use Rattle.metron.specs.Causes.{State, IsAtScript, IsRun}
+use Rattle.metron.specs.Due.{OutputRose}
 use Rattle.metron.specs.declared.outcome.FileId.TheVariants as file
 use Rattle.metron.specs.declared.outcome.Fault.{Fault}
 use Rattle.metron.specs.declared.outcome.Fault.TheVariants.{Write, Memory}
 
--- the device of this number is the one on which the command's chain sends
-abbrev pub IsOutput : List (List ℕ) → Held → ℕ → Type 0
-IsOutput words held number = (command : Words) × (chain : ChainState) × IsAtChain words held command chain × (number ≡ output_device chain)
+-- the files of the command's devices, or none where the run did not come so far
+abbrev pub AreOutputs : List (List ℕ) → Held → RunView → Outputs → Type 0
+AreOutputs words held command outputs =
+    (outputs ≡ []) ⊎ ((chain : ChainState) × (bound : List BoundView) × IsAtScript words held command chain bound × (outputs ≡ outputs_of bound))
 
--- the same, or no number
-abbrev pub IsSender : List (List ℕ) → Held → ℕ → Type 0
-IsSender words held number = (number ≡ 0) ⊎ IsOutput words held number
-
--- why bytes were still pending at the end: the output's writes failed. Want of memory is free.
-abbrev pub FinishFault : List (List ℕ) → State → State → Words → Fault → Type 0
-FinishFault words old new c (Write (file.Output number)) = IsOutput words old.held number × Rose (old.failed_writes c.output) (new.failed_writes c.output)
+-- why bytes were still pending at the end: the writes of an output failed. Want of memory is free.
+abbrev pub FinishFault : List (List ℕ) → State → State → RunView → Fault → Type 0
+FinishFault words old new c (Write (file.Output device)) = OutputRose words c old new device
 FinishFault words old new c Memory = ⊤
 FinishFault words old new c fault = ⊥
 
--- A run, all of whose bytes were written, or some are pending: then the run told more as written than was.
-pub data IsServed (words : List (List ℕ)) (old new : State) (order : List ℕ) (fault : Fault) : Type 0 where
-  all_written : IsRun words old new order fault → IsServed words old new order fault
+-- the file of which bytes are pending is that of a device, or it is not known
+abbrev pub UnwrittenCause : Outputs → Told → Fault → Type 0
+UnwrittenCause outputs unwritten (Write (file.Output device)) = (index : ℕ) × (name : List ℕ) × (device ≡ index + 1) × IsFile outputs index name × (unwritten ≡ Some name)
+UnwrittenCause outputs unwritten Memory = ⊤
+UnwrittenCause outputs unwritten fault = ⊥
+
+-- since a state was told, no count fell
+pub record NoneFell (told new : State) : Type 0 where
+  pub reads : NeverFell told.failed_reads new.failed_reads
+  pub writes : NeverFell told.failed_writes new.failed_writes
+
+-- A run over buffers that told this state at its end. Then all that it told as written was written, or some bytes are
+-- pending: it told more as written than was. What it told as held is behind what buffers have read ahead.
+pub data IsServed (words : List (List ℕ)) (old new : State) (order picks : List ℕ) (fault : Fault) : Type 0 where
+  all_written :
+      (told : State) → IsRun words old told order picks fault → IsSame told.written new.written → NoneFell told new
+      → IsServed words old new order picks fault
   some_pending :
-      (command : Words) (told : Held) (ran : Fault) → command_of words ≡ Some command
-      → IsRun words old (record new { written = told }) order ran → HasPending told new.written
-      → FinishFault words old new command fault → IsServed words old new order fault
+      (command : RunView) (told : State) (ran : Fault) → IsCommand words command
+      → IsRun words old told order picks ran → HasPending told.written new.written → NoneFell told new
+      → FinishFault words old new command fault → IsServed words old new order picks fault

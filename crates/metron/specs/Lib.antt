@@ -1,6 +1,5 @@
 pub mod Outcome
 pub mod Order
-pub mod Command
 pub mod Fates
 pub mod Finish
 pub mod Inputs

@@ -1,54 +1,166 @@
--- What serving the records of a capture leaves.
-use Rattle.std.specs.Prelude.{◌≡◌, ◌≤◌, ℕ, List, [], take, length, Option, Some, ⊤}
-use Rattle.std.specs.List.{range_with_len}
-use Rattle.mt_io.specs.Files.{Rose, Gains}
+-- What serving the frames of a merge leaves.
+use Rattle.std.specs.Prelude.{◌≡◌, ◌≢◌, ◌⊎◌, ◌<◌, ℕ, ◌+◌, ◌/◌, ◌^◌, List, [], ◌∷◌, ◌++◌, length, Option, Some, None, slice_get, IfSome, ⊤}
+use Rattle.mt_io.specs.Files.{Rose, Gains, IsSame}
 use Rattle.mt_io.specs.Copy.{GainsFront}
 use Rattle.mt_packet.specs.Packet.{PacketState}
+use Rattle.mt_packet.specs.declared.frame.Stamped.{Stamped}
+use Rattle.mt_pcap.specs.declared.fault.PcapFault.{PcapFault}
+use Rattle.mt_pcap.specs.declared.fault.PcapFault.TheVariants.{ReadFault, NoMemory, BadRecord, Torn}
+use Rattle.mt_pcap.specs.Merge as merges
+use Rattle.mt_pcap.specs.Text.{header_text}
+use Rattle.mt_pcap.specs.Merge.{MergedEnd, merge_of}
+use Rattle.mt_pcap.specs.Merged.{IsWholeMerge, IsBrokenMerge}
+use Rattle.mt_pcap.specs.Opened.{captures_in}
 use Rattle.mt_elements.specs.ChainState.{ChainState}
-use Rattle.mt_chain.specs.Run.{TablesState, Run, run_packet}
+use Rattle.mt_chain.specs.Run.{TablesState, run_packet}
 use Rattle.mt_chain.specs.Sequence.{run_all}
 use Rattle.mt_chain.specs.declared.run.Fate.{Fate}
-use Rattle.metron.specs.Fates.{packets_of, fate_text, device_text}
+use Rattle.mt_chain.specs.declared.run.Fate.TheVariants.{Sent, Dropped}
+use Rattle.metron.specs.Fates.{packets_of, fate_text, sent_text}
+use Rattle.metron.specs.Order.{numbers}
 use Rattle.metron.specs.declared.outcome.FileId.TheVariants as file
 use Rattle.metron.specs.declared.outcome.Fault.{Fault}
-use Rattle.metron.specs.declared.outcome.Fault.TheVariants.{Write, Memory}
+use Rattle.metron.specs.declared.outcome.Fault.TheVariants.{Done, Capture as CaptureTold, Frames, Read, Write, Memory}
 
--- the first n numbers, from 0 on
-abbrev pub numbers : ℕ → List ℕ
-numbers n = range_with_len 0 n
+-- bytes, where they are told, by the name of a file
+abbrev pub Held : Type 0
+Held = List ℕ → Option (List ℕ)
 
--- Every record was served in its order. The chain, run element by element on their packets one after the
--- other, gives these fates, and the text of what is sent on the device was written.
-pub record HasServed (device : ℕ) (chain : ChainState) (records : List (ℕ × List ℕ)) (before after : Option (List ℕ)) (order : List ℕ) : Type 0 where
+-- ---- outputs
+
+-- The file of each device on which frames are sent, by the device's index, one less than its number.
+abbrev pub Outputs : Type 0
+Outputs = List (Option (List ℕ))
+
+abbrev pub IsFile : Outputs → ℕ → List ℕ → Type 0
+IsFile outputs index name = slice_get outputs index ≡ Some (Some name)
+
+-- no two of the files are one
+abbrev pub AreFilesApart : Outputs → Type 0
+AreFilesApart outputs = (j k : ℕ) (name : List ℕ) → IsFile outputs j name → IsFile outputs k name → j ≡ k
+
+-- each file gained the text of its device
+abbrev pub AllGain : Outputs → Held → Held → (ℕ → List ℕ) → Type 0
+AllGain outputs old new text = (index : ℕ) (name : List ℕ) → IsFile outputs index name → Gains (old name) (text (index + 1)) (new name)
+
+-- each gained some front of it
+abbrev pub AllGainFront : Outputs → Held → Held → (ℕ → List ℕ) → Type 0
+AllGainFront outputs old new text = (index : ℕ) (name : List ℕ) → IsFile outputs index name → GainsFront (old name) (text (index + 1)) (new name)
+
+-- nothing was written to any other file
+abbrev pub IsSameElsewhere : Outputs → Held → Held → Type 0
+IsSameElsewhere outputs old new = (other : List ℕ) → ((index : ℕ) (name : List ℕ) → IsFile outputs index name → other ≢ name) → new other ≡ old other
+
+-- the device has a file of which the count rose
+pub record HasRisen (outputs : Outputs) (device : ℕ) (old new : List ℕ → ℕ) : Type 0 where
+  pub index : ℕ
+  pub name : List ℕ
+  pub device_is : device ≡ index + 1
+  pub file_is : IsFile outputs index name
+  pub rose : Rose (old name) (new name)
+
+-- why not all was written; the functions are the failed writes before and after
+abbrev pub OutputFault : Outputs → (List ℕ → ℕ) → (List ℕ → ℕ) → Fault → Type 0
+OutputFault outputs old new (Write (file.Output device)) = HasRisen outputs device old new
+OutputFault outputs old new Memory = ⊤
+OutputFault outputs old new fault = ⊥
+
+-- ---- one output that begins
+
+-- the file, if there is one, gained a capture's header
+abbrev pub Begins : Option (List ℕ) → Held → Held → Type 0
+Begins None old new = IsSame old new
+Begins (Some name) old new = Gains (old name) header_text (new name)
+
+-- or a front of it
+abbrev pub BeginsFront : Option (List ℕ) → Held → Held → Type 0
+BeginsFront None old new = IsSame old new
+BeginsFront (Some name) old new = GainsFront (old name) header_text (new name)
+
+abbrev pub BeginFault : ℕ → Option (List ℕ) → (List ℕ → ℕ) → (List ℕ → ℕ) → Fault → Type 0
+BeginFault device (Some name) old new (Write (file.Output number)) = (number ≡ device) × Rose (old name) (new name)
+BeginFault device output old new Memory = ⊤
+BeginFault device output old new fault = ⊥
+
+-- ---- inputs
+
+-- the device has a capture of whose file the count rose
+pub record HasInputRisen (inputs : List (List ℕ)) (device : ℕ) (old new : List ℕ → ℕ) : Type 0 where
+  pub index : ℕ
+  pub name : List ℕ
+  pub device_is : device ≡ index + 1
+  pub file_is : slice_get inputs index ≡ Some name
+  pub rose : Rose (old name) (new name)
+
+-- how a run ends whose frames were all served
+abbrev pub fault_of : MergedEnd → Fault
+fault_of merges.Done = Done
+fault_of (merges.Fault device why) = CaptureTold device why
+fault_of (merges.Frames count) = Frames count
+
+-- a fault of a record, and not of the header, of reading or of memory
+abbrev pub IsRecordFault : PcapFault → Type 0
+IsRecordFault (BadRecord offset) = ⊤
+IsRecordFault (Torn offset) = ⊤
+IsRecordFault why = ⊥
+
+-- captures that were opened end so
+abbrev pub IsEnd : MergedEnd → Type 0
+IsEnd (merges.Fault device why) = IsRecordFault why
+IsEnd end = ⊤
+
+-- the frames are the first of the merge of the captures that files of these names held, if each is told
+abbrev pub AreFirst : List (List ℕ) → Held → List Stamped → Type 0
+AreFirst names first frames = IfSome (captures_in first names) (λ captures. (rest : List Stamped) × ((merge_of captures).frames ≡ frames ++ rest))
+
+-- ---- frames
+
+-- The frames were served in their order. The chain, run element by element on their packets one after the other,
+-- gives these fates; R tells what was written of them.
+pub record HasServed (R : Outputs → Held → Held → (ℕ → List ℕ) → Type 0) (chain : ChainState) (outputs : Outputs) (old new : Held) (order : List ℕ) (frames : List Stamped) : Type 0 where
   pub fates : List Fate
-  pub run : run_all chain (packets_of records) [] ≡ Some fates
-  pub all : order ≡ numbers (length records)
-  pub written : Gains before (device_text device fates) after
+  pub run : run_all chain (packets_of frames) [] ≡ Some fates
+  pub numbered : order ≡ numbers (length frames)
+  pub written : R outputs old new (λ device. sent_text device fates)
 
--- Some of the records were served, from the first on, and a front of their text was written.
-pub record HasServedSome (device : ℕ) (chain : ChainState) (records : List (ℕ × List ℕ)) (before after : Option (List ℕ)) (order : List ℕ) : Type 0 where
-  pub count : ℕ
-  pub within : count ≤ length records
-  pub fates : List Fate
-  pub run : run_all chain (packets_of (take count records)) [] ≡ Some fates
-  pub some : order ≡ numbers count
-  pub written : GainsFront before (device_text device fates) after
+-- The frames of a merge of the captures that files of these names held at first, and hold now, were served until this fault.
+pub data IsServing (chain : ChainState) (inputs : List (List ℕ)) (outputs : Outputs) (first held old new : Held) (reads reads' writes writes' : List ℕ → ℕ) (order : List ℕ) (fault : Fault) : Type 0 where
+  all_served :
+      (frames : List Stamped) (end : MergedEnd) → IsWholeMerge inputs first frames end → IsEnd end → fault ≡ fault_of end
+      → HasServed AllGain chain outputs old new order frames → IsServing chain inputs outputs first held old new reads reads' writes writes' order fault
+  input_failed :
+      (frames : List Stamped) (device : ℕ) → IsBrokenMerge inputs first held frames device → fault ≡ Read (file.Capture device) → HasInputRisen inputs device reads reads'
+      → HasServed AllGain chain outputs old new order frames → IsServing chain inputs outputs first held old new reads reads' writes writes' order fault
+  broken_off :
+      (frames : List Stamped) → AreFirst inputs first frames → OutputFault outputs writes writes' fault
+      → HasServed AllGainFront chain outputs old new order frames → IsServing chain inputs outputs first held old new reads reads' writes writes' order fault
 
--- One packet was served: it ran, and the text of what it sends on the device was written.
-pub record HasServedOne (device : ℕ) (chain : ChainState) (tables tables' : TablesState) (packet : PacketState) (before after : Option (List ℕ)) : Type 0 where
+-- ---- one frame
+
+-- what is sent can be written as a record
+abbrev pub IsWritable : Fate → Type 0
+IsWritable (Sent device frame) = (frame.stamp / 1000000000 < 2 ^ 32) × (length frame.frame < 2 ^ 32)
+IsWritable (Dropped why) = ⊤
+
+-- One packet was served: it ran, its number stands behind the others, and R tells what was written of it.
+pub record HasServedOne (R : Outputs → Held → Held → (ℕ → List ℕ) → Type 0) (chain : ChainState) (outputs : Outputs) (tables tables' : TablesState) (packet : PacketState) (number : ℕ) (old new : Held) (order order' : List ℕ) : Type 0 where
   pub fate : Fate
   pub run : run_packet chain tables packet [] ≡ Some (record { fate = fate; tables = tables'; picks = [] })
-  pub written : Gains before (fate_text device fate) after
+  pub ordered : order' ≡ order ++ number ∷ []
+  pub written : R outputs old new (λ device. fate_text device fate)
 
--- One packet was served in part: it ran, and a front of that text was written.
-pub record HasBrokenOff (device : ℕ) (chain : ChainState) (tables : TablesState) (packet : PacketState) (before after : Option (List ℕ)) : Type 0 where
-  pub run : Run
-  pub is : run_packet chain tables packet [] ≡ Some run
-  pub none_left : length run.picks ≤ 0
-  pub written : GainsFront before (fate_text device run.fate) after
+-- it was not served
+pub record IsUnserved (old new : Held) (order order' : List ℕ) : Type 0 where
+  pub ordered : order' ≡ order
+  pub written : IsSame old new
 
--- why not all were served; the numbers are the output's failed writes before and after
-abbrev pub ServeFault : ℕ → ℕ → ℕ → Fault → Type 0
-ServeFault device before after (Write (file.Output number)) = (number ≡ device) × Rose before after
-ServeFault device before after Memory = ⊤
-ServeFault device before after fault = ⊥
+-- or it was, and a front of what it sends was written
+abbrev pub HasNotServedOne : ChainState → Outputs → TablesState → PacketState → ℕ → Held → Held → List ℕ → List ℕ → Type 0
+HasNotServedOne chain outputs tables packet number old new order order' =
+    IsUnserved old new order order' ⊎ ((tables' : TablesState) × HasServedOne AllGainFront chain outputs tables tables' packet number old new order order')
+
+-- what a fault of a merge makes of a run
+abbrev pub MergeCause : ℕ → PcapFault → Fault → Type 0
+MergeCause device ReadFault fault = fault ≡ Read (file.Capture device)
+MergeCause device NoMemory fault = fault ≡ Memory
+MergeCause device why fault = fault ≡ CaptureTold device why

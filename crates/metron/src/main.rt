@@ -1,7 +1,9 @@
-//! Runs a capture through a chain of network functions.
+//! Runs captures through a chain of network functions.
 #![tactic(auto)]
 
 mod command;
+mod devices;
+mod ends;
 mod inputs;
 mod outcome;
 mod run;
@@ -21,19 +23,27 @@ use std::{env, io};
 /// The status of a run whose words are no command; a word that is no text is none.
 const MISUSED: u8 = 1;
 
-/// The status of a run for which there is no memory.
-const NO_MEMORY: u8 = 7;
-
-/// Ends with the status of the run. It prints nothing.
+/// Ends with the status of the run. Where it is not 0, a line on standard error tells why.
 fn main(rt: HostRuntime) -> ExitCode {
     let words = match words(&rt, rt.alloc()) {
         Ok(words) => words,
         Err(error) if error.kind() == ErrorKind::InvalidData => return ExitCode::from(MISUSED),
-        Err(_) => return ExitCode::from(NO_MEMORY),
+        Err(_) => return told(&rt, Fault::Memory),
     };
+    if words.len() > u32::MAX as usize {
+        return ExitCode::from(MISUSED);
+    }
     let files = RealFiles::new(&rt, rt.alloc());
     let (outcome, _) = serve_command(rt.alloc(), &words, files);
-    ExitCode::from(outcome.status)
+    told(&rt, outcome.fault)
+}
+
+/// Prints the line of a fault. That it can't be printed changes no status.
+fn told(rt: &HostRuntime, fault: Fault) -> ExitCode {
+    if fault != Fault::Done {
+        let _ = eprintln!(rt; "{fault}");
+    }
+    ExitCode::from(fault.status())
 }
 
 /// The words behind the program's own name.

@@ -1,101 +1,113 @@
 //! The top call.
-ghost use Rattle.std.specs.Prelude.{◌≡◌, ◌<◌, ◌⊎◌, [], map, Some, option_map};
+ghost use Rattle.std.specs.Prelude.{◌≡◌, ◌<◌, ◌≤◌, ◌^◌, [], length, map, option_map, IfSome, Some};
+ghost use Rattle.std.specs.Bool.{OnTrue};
 ghost use Rattle.std.specs.String.{string_bytes};
-ghost use Rattle.mt_io.specs.Files.{NeverFell};
-ghost use Rattle.mt_elements.specs.ChainState.{ChainState};
-ghost use Rattle.metron.specs.Outcome.{status_of};
-ghost use Rattle.metron.specs.Order.{order_of};
-ghost use Rattle.metron.specs.Command.{view, command_of};
-ghost use Rattle.metron.specs.Causes.{is_device, binds, output_device, state_of, IsUntouched, IsRun};
-ghost use Rattle.metron.specs.Finish.{IsSender, IsServed};
+ghost use Rattle.mt_command.specs.Parts.{bound_view};
+ghost use Rattle.metron.specs.Outcome.{status_of, order_of, picks_of};
+ghost use Rattle.metron.specs.Causes.{state_of, IsUntouched, IsRun};
+ghost use Rattle.metron.specs.Finish.{IsServed, UnwrittenCause};
+ghost use Rattle.metron.specs.Inputs.{outputs_of};
+ghost use Rattle.metron.specs.Serving.{IsFile};
 ghost use Rattle.metron.specs.Due.{IsExact, IsComplete, NoneFailed, IsFinished, IsEarly};
 ghost use Rattle.metron.specs.declared.outcome.Fault.{Fault};
-ghost use Rattle.metron.specs.declared.outcome.FileId.{FileId};
 
-use crate::command::{Command, command_in};
-use crate::inputs::{read_capture, read_chain, read_script};
-use crate::serve::serve;
+use crate::command::run_command;
 use crate::{Fault, FileId, Outcome};
-use mt_elements::Chain;
+use mt_command::laws::{files_are_apart, one_answer_of_bindings, one_answer_of_words};
+use mt_command::{Bound, WordsFault, read};
 use mt_io::{Buffered, Files};
-use mt_pcap::WholeCapture;
 use std::alloc::Global;
 
 /// Runs the command that the words are, over files by name:
 ///
 /// ```text
-/// run CHAIN SCRIPT in:DEVICE=FILE out:DEVICE=FILE
+/// run CHAIN SCRIPT BINDING..
 /// ```
 ///
-/// reads the chain, the script and the capture, takes each frame of the capture through the chain, and
-/// writes a capture of those that are sent.
+/// reads the chain and the script, merges the captures of its devices by time, takes each frame through the
+/// chain, and writes for each device on which frames are sent a capture of those.
 pub fn metron<F: Files>(alloc: Global, words: &[String], files: &mut F) -> Outcome
+    requires few { length words.now < 2 ^ 32 }
     ensures status { result.status ≡ status_of result.fault }
     ensures run { IsRun (map string_bytes words.now)
         (state_of F.held F.written F.read_faults F.write_faults files.old)
         (state_of F.held F.written F.read_faults F.write_faults files.new)
-        (order_of result) result.fault }
+        (order_of result) (picks_of result) result.fault }
     ensures done { result.fault ≡ Fault.Done
         → IsFinished (map string_bytes words.now)
         (state_of F.held F.written F.read_faults F.write_faults files.old)
         (state_of F.held F.written F.read_faults F.write_faults files.new)
-        (order_of result) }
+        (order_of result) (picks_of result) }
     ensures nothing_written { IsEarly result.fault
         → IsUntouched
         (state_of F.held F.written F.read_faults F.write_faults files.old)
         (state_of F.held F.written F.read_faults F.write_faults files.new)
-        (order_of result) }
-    ensures exact { IsExact (command_of (map string_bytes words.now))
+        (order_of result) (picks_of result) }
+    ensures exact { IsExact (map string_bytes words.now)
         (state_of F.held F.written F.read_faults F.write_faults files.old)
         (state_of F.held F.written F.read_faults F.write_faults files.new)
         result.fault }
     ensures complete { NoneFailed
         (state_of F.held F.written F.read_faults F.write_faults files.old)
         (state_of F.held F.written F.read_faults F.write_faults files.new)
-        → IsComplete (command_of (map string_bytes words.now)) (F.held files.old) result.fault }
+        → IsComplete (map string_bytes words.now) (F.held files.old) result.fault }
 {
+    one_answer_of_words();
+    one_answer_of_bindings();
     let mut order = Vec::new(alloc);
-    let ended = run(alloc, words, files, &mut order);
-    Outcome::new(ended.fault, order)
+    let fault = run(alloc, words, files, &mut order);
+    Outcome::new(alloc, fault, order)
 }
 
 /// Runs the command that the words are, as `metron` does, over files that are read and written through
-/// buffers, and has all written. Where that fails at last, the run ends as at any failed write of its output.
+/// buffers, and has all written. Where that fails at last, the run ends as at any failed write of that output.
 pub fn serve_command<F: Files + Drop>(alloc: Global, words: &[String], files: F) -> (Outcome, F)
+    requires few { length words.now < 2 ^ 32 }
     ensures status { result.0.status ≡ status_of result.0.fault }
     ensures run { IsServed (map string_bytes words.now)
         (state_of F.held F.written F.read_faults F.write_faults files)
         (state_of F.held F.written F.read_faults F.write_faults result.1)
-        (order_of result.0) result.0.fault }
+        (order_of result.0) (picks_of result.0) result.0.fault }
     ensures done { result.0.fault ≡ Fault.Done
         → IsFinished (map string_bytes words.now)
         (state_of F.held F.written F.read_faults F.write_faults files)
         (state_of F.held F.written F.read_faults F.write_faults result.1)
-        (order_of result.0) }
+        (order_of result.0) (picks_of result.0) }
     ensures nothing_written { IsEarly result.0.fault
         → IsUntouched
         (state_of F.held F.written F.read_faults F.write_faults files)
         (state_of F.held F.written F.read_faults F.write_faults result.1)
-        (order_of result.0) }
-    ensures exact { IsExact (command_of (map string_bytes words.now))
+        (order_of result.0) (picks_of result.0) }
+    ensures exact { IsExact (map string_bytes words.now)
         (state_of F.held F.written F.read_faults F.write_faults files)
         (state_of F.held F.written F.read_faults F.write_faults result.1)
         result.0.fault }
     ensures complete { NoneFailed
         (state_of F.held F.written F.read_faults F.write_faults files)
         (state_of F.held F.written F.read_faults F.write_faults result.1)
-        → IsComplete (command_of (map string_bytes words.now)) (F.held files) result.0.fault }
+        → IsComplete (map string_bytes words.now) (F.held files) result.0.fault }
 {
+    one_answer_of_words();
+    one_answer_of_bindings();
     let mut order = Vec::new(alloc);
     let (fault, files) = run_buffered(alloc, words, files, &mut order);
-    (Outcome::new(fault, order), files)
+    (Outcome::new(alloc, fault, order), files)
 }
 
-/// How a run ended, and the device on which its frames are sent, from 1; 0 before frames are served.
-#[derive(Clone, Copy)]
-struct Ended {
-    fault: Fault,
-    device: u32,
+fn run<F: Files>(alloc: Global, words: &[String], files: &mut F, order: &mut Vec<u32>) -> Fault
+    requires few { length words.now < 2 ^ 32 }
+    requires first { order.old.items ≡ [] }
+    ensures { IsRun (map string_bytes words.now)
+        (state_of F.held F.written F.read_faults F.write_faults files.old)
+        (state_of F.held F.written F.read_faults F.write_faults files.new)
+        order.new.items [] result }
+{
+    files_are_apart();
+    match read(alloc, words) {
+        Ok(command) => run_command(alloc, &command, files, order).fault,
+        Err(WordsFault::Word(word)) => Fault::UsageWord(word),
+        Err(WordsFault::NoMemory) => Fault::Memory,
+    }
 }
 
 fn run_buffered<F: Files + Drop>(
@@ -104,109 +116,67 @@ fn run_buffered<F: Files + Drop>(
     files: F,
     order: &mut Vec<u32>,
 ) -> (Fault, F)
-    requires { order.old.items ≡ [] }
+    requires few { length words.now < 2 ^ 32 }
+    requires first { order.old.items ≡ [] }
     ensures { IsServed (map string_bytes words.now)
         (state_of F.held F.written F.read_faults F.write_faults files)
         (state_of F.held F.written F.read_faults F.write_faults result.1)
-        order.new.items result.0 }
+        order.new.items [] result.0 }
 {
-    let Some(command) = command_in(words) else {
-        return (Fault::UsageWord(0), files);
+    files_are_apart();
+    let command = match read(alloc, words) {
+        Ok(command) => command,
+        Err(WordsFault::Word(word)) => return (Fault::UsageWord(word), files),
+        Err(WordsFault::NoMemory) => return (Fault::Memory, files),
     };
     let mut buffered = Buffered::new(alloc, files);
-    let ended = run(alloc, words, &mut buffered, order);
+    let ended = run_command(alloc, &command, &mut buffered, order);
     match buffered.finish() {
         Ok(()) => (ended.fault, buffered.into_inner()),
         Err(_) => {
-            let fault = unwritten_fault(command.output, buffered.unwritten(), ended.device);
+            let fault = unwritten_fault(&ended.bound, buffered.unwritten());
             (fault, buffered.into_inner())
         }
     }
 }
 
-/// The fault where bytes of a file are still pending at the end. The output is the only file that a run
-/// writes.
-fn unwritten_fault(output: &str, unwritten: Option<&str>, device: u32) -> Fault
-    ensures { (result ≡ Fault.Memory) ⊎ ((0 < device) × (option_map (λ name. name.now) unwritten.entry ≡ Some output.now) × (result ≡ Fault.Write (FileId.Output device))) }
+/// The fault where bytes of a file are still pending at the end. A run writes no other files than those of its
+/// devices.
+fn unwritten_fault(bound: &[Bound<'_>], unwritten: Option<&str>) -> Fault
+    requires { length bound.now ≤ 32 }
+    ensures { UnwrittenCause (outputs_of (map bound_view bound.now)) (option_map (λ name. name.now) unwritten.entry) result }
 {
     match unwritten {
-        Some(name) if name == output && device > 0 => Fault::Write(FileId::Output(device)),
-        _ => Fault::Memory,
-    }
-}
-
-fn run<F: Files>(alloc: Global, words: &[String], files: &mut F, order: &mut Vec<u32>) -> Ended
-    requires { order.old.items ≡ [] }
-    ensures run { IsRun (map string_bytes words.now)
-        (state_of F.held F.written F.read_faults F.write_faults files.old)
-        (state_of F.held F.written F.read_faults F.write_faults files.new)
-        order.new.items result.fault }
-    ensures device { IsSender (map string_bytes words.now) (F.held files.old) result.device }
-    ensures write_faults { NeverFell (F.write_faults files.old) (F.write_faults files.new) }
-{
-    let Some(command) = command_in(words) else {
-        return Ended {
-            fault: Fault::UsageWord(0),
-            device: 0,
-        };
-    };
-    let chain = match read_chain(alloc, files, command.chain) {
-        Ok(chain) => chain,
-        Err(fault) => return Ended { fault, device: 0 },
-    };
-    if !binds(&chain, &command) {
-        return Ended {
-            fault: Fault::UsageWord(0),
-            device: 0,
-        };
-    }
-    match read_script(alloc, files, command.script) {
-        Ok(()) => {}
-        Err(fault) => return Ended { fault, device: 0 },
-    }
-    let capture = match read_capture(alloc, files, command.capture) {
-        Ok(capture) => capture,
-        Err(fault) => return Ended { fault, device: 0 },
-    };
-    let WholeCapture { records, end } = capture;
-    let device = output_device(&chain);
-    match serve(alloc, files, command.output, device, &chain, records, order) {
-        Ok(()) => {}
-        Err(fault) => return Ended { fault, device },
-    }
-    match end {
-        None => Ended {
-            fault: Fault::Done,
-            device,
-        },
-        Some(why) => Ended {
-            fault: Fault::Capture(1, why),
-            device,
+        None => Fault::Memory,
+        Some(name) => match device_of(bound, name) {
+            None => Fault::Memory,
+            Some(index) => Fault::Write(FileId::Output(index as u32 + 1)),
         },
     }
 }
 
-/// Whether the command binds each device of the chain.
-#[tactic(auto, unfolding(crate::specs::Causes::binds))]
-fn binds(chain: &Chain, command: &Command<'_>) -> bool
-    ensures { result ≡ binds chain.now (view command.now) }
+/// The index of the device for which a file is written.
+fn device_of(bound: &[Bound<'_>], name: &str) -> Option<usize>
+    ensures { IfSome result (λ index. IsFile (outputs_of (map bound_view bound.now)) index name.now) }
 {
-    is_device(chain, 1, command.device) && is_device(chain, output_device(chain), command.out)
+    let mut index = 0;
+    let mut rest = bound;
+    while let [files, after @ ..] = rest {
+        if is_file(files.output, name) {
+            return Some(index);
+        }
+        index += 1;
+        rest = after;
+    }
+    None
 }
 
-/// Whether a device of the chain, from 1, has this name.
-fn is_device(chain: &Chain, number: u32, name: &[u8]) -> bool
-    ensures { result ≡ is_device chain.now number name.now }
+/// Whether an output is the file of that name.
+fn is_file(output: Option<&str>, name: &str) -> bool
+    ensures { OnTrue result (option_map (λ f. f.now) output.entry ≡ Some name.now) }
 {
-    match chain.devices().get(number.saturating_sub(1) as usize) {
-        Some(device) => device.bytes() == name,
+    match output {
+        Some(file) => file == name,
         None => false,
     }
-}
-
-/// The device on which frames are sent.
-fn output_device(chain: &Chain) -> u32
-    ensures { result ≡ output_device chain.now }
-{
-    chain.devices().len() as u32
 }

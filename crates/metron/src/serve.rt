@@ -1,113 +1,125 @@
-//! Serving the frames of a capture, one after the other, and writing those that are sent.
-ghost use Rattle.std.specs.Prelude.{◌≡◌, ◌<◌, ◌≤◌, ◌/◌, ◌^◌, [], length, All, OnOk, OnErr, IfErr, IfSome, None, true};
-ghost use Rattle.mt_io.specs.Files.{IsSame, IsSameBut, NeverFell};
+//! Serving the frames of a merge, one after the other, and writing those that are sent.
+ghost use Rattle.std.specs.Prelude.{◌≡◌, ◌<◌, ◌≤◌, ◌/◌, ◌^◌, ℕ, List, [], length, OnOk, OnErr, IfErr};
+ghost use Rattle.mt_io.specs.Files.{IsSame, NeverFell};
 ghost use Rattle.mt_packet.specs.declared.layer.Layer.TheVariants as layer;
-ghost use Rattle.mt_pcap.specs.Text.{record_text};
+ghost use Rattle.mt_pcap.specs.Merged.{HasMerged};
+ghost use Rattle.mt_pcap.specs.Sources.{IsSameBeside, names_of};
 ghost use Rattle.mt_elements.specs.ChainState.{entry_of};
 ghost use Rattle.mt_chain.specs.Run.{IsStateless, IsThere};
 ghost use Rattle.mt_chain.specs.declared.run.Fate.TheVariants as fates;
-ghost use Rattle.metron.specs.Fates.{records_sent};
-ghost use Rattle.metron.specs.Inputs.{is_simple};
-ghost use Rattle.metron.specs.Serving.{ServeFault, HasServed, HasServedSome, HasServedOne, HasBrokenOff};
+ghost use Rattle.metron.specs.Fates.{fate_text};
+ghost use Rattle.metron.specs.Serving.{Held, AreFilesApart, AllGain, AllGainFront, IsSameElsewhere, OutputFault, IsServing, IsWritable, HasServedOne, HasNotServedOne, MergeCause};
 
 use crate::{Fault, FileId};
 use mt_chain::laws::{devices_have_entries, one_packet_behind_others};
 use mt_chain::{Fate, Tables, run_one};
 use mt_elements::Chain;
-use mt_io::{Files, write_all};
-use mt_packet::{Frame, Packet, Stamped};
-use mt_pcap::{header, record_head};
-use std::alloc::{AllocError, Global};
+use mt_io::Files;
+use mt_packet::{Packet, Stamped};
+use mt_pcap::laws::merges_all;
+use mt_pcap::{Merge, MergeFault, PcapFault, WriteFault, Writer};
+use std::alloc::Global;
 
-/// Serves the records in their order, as frames that arrive on device 1, and writes a capture of what is
-/// sent on a device. The numbers of the frames that were served are put behind `order`.
+/// The most frames that are served in a run.
+const MOST_FRAMES: u32 = 16_777_216;
+
+/// Serves the frames of a merge in their order, until it ends, and writes for each device on which frames are
+/// sent the records of those. The numbers of the frames that were served are put behind `order`.
 pub(crate) fn serve<F: Files>(
     alloc: Global,
     files: &mut F,
-    output: &str,
-    device: u32,
     chain: &Chain,
-    records: Vec<(u64, Frame)>,
+    merge: &mut Merge,
+    writers: &mut [Option<Writer>],
     order: &mut Vec<u32>,
-) -> Result<(), Fault>
-    requires seconds_fit { All (λ r. r.0 / 1000000000 < 2 ^ 32) records.items }
-    requires lengths { All (λ r. length r.1 ≤ 262144) records.items }
-    requires few { length records.items < 2 ^ 32 }
-    requires first { order.old.items ≡ [] }
-    requires simple { is_simple chain.now ≡ true }
-    ensures ok { OnOk result (HasServed device chain.now records.items
-        (F.written files.old output.now) (F.written files.new output.now) order.new.items) }
-    ensures err { OnErr result (HasServedSome device chain.now records.items
-        (F.written files.old output.now) (F.written files.new output.now) order.new.items) }
-    ensures cause { IfErr result (ServeFault device (F.write_faults files.old output.now) (F.write_faults files.new output.now)) }
+) -> Fault
+    requires begins { merge.old.given ≡ 0 }
+    requires known { length merge.old.sources ≤ chain.now.entries }
+    requires apart { AreFilesApart writers.old }
+    requires none_served { order.old.items ≡ [] }
+    requires stateless { IsStateless chain.now }
+    ensures serving { (names : List (List ℕ)) (first : Held) → HasMerged names first (F.held files.old) [] merge.old
+        → IsServing chain.now names writers.old first (F.held files.new)
+        (F.written files.old) (F.written files.new)
+        (F.read_faults files.old) (F.read_faults files.new)
+        (F.write_faults files.old) (F.write_faults files.new)
+        order.new.items result }
 
-    ensures other_files { IsSameBut output.now (F.written files.old) (F.written files.new) }
-    ensures held { IsSame (F.held files.old) (F.held files.new) }
+    ensures other_held { IsSameBeside (names_of merge.old.sources) (F.held files.old) (F.held files.new) }
+    ensures other_written { IsSameElsewhere writers.old (F.written files.old) (F.written files.new) }
     ensures read_faults { NeverFell (F.read_faults files.old) (F.read_faults files.new) }
     ensures write_faults { NeverFell (F.write_faults files.old) (F.write_faults files.new) }
 {
-    match write_all(files, output, &header()) {
-        Ok(()) => {}
-        Err(_) => return Err(Fault::Write(FileId::Output(device))),
-    }
     chain.is_accepted();
     devices_have_entries();
     one_packet_behind_others();
+    merges_all();
     let mut tables = match Tables::new(alloc, chain) {
         Ok(tables) => tables,
-        Err(_) => return Err(Fault::Memory),
+        Err(_) => return Fault::Memory,
     };
-    let mut piece = Vec::new(alloc);
-    let mut number = 0u32;
-    for (stamp, frame) in records {
-        match order.push(number) {
-            Ok(()) => {}
-            Err(_) => return Err(Fault::Memory),
-        }
-        let packet = Packet::new(Stamped {
-            stamp,
-            device: 1,
-            number,
-            frame,
-        });
+    while merge.given() < MOST_FRAMES {
+        let frame = match merge.next(files) {
+            Ok(Some(frame)) => frame,
+            Ok(None) => return Fault::Done,
+            Err(fault) => return merge_fault(fault),
+        };
+        let number = frame.number;
         match serve_one(
             files,
-            output,
-            device,
             chain,
             &mut tables,
-            packet,
-            &mut piece,
+            writers,
+            Packet::new(frame),
+            number,
+            order,
         ) {
             Ok(()) => {}
-            Err(fault) => return Err(fault),
+            Err(fault) => return fault,
         }
-        number += 1;
     }
-    Ok(())
+    match merge.next(files) {
+        Ok(Some(_)) => Fault::Frames(MOST_FRAMES + 1),
+        Ok(None) => Fault::Done,
+        Err(fault) => merge_fault(fault),
+    }
 }
 
-/// Runs one packet through the chain, and writes what it sends on the device. `piece` is room for what is
-/// written.
+/// Why the frames of a merge end early.
+fn merge_fault(fault: MergeFault) -> Fault
+    ensures { MergeCause fault.device fault.fault result }
+{
+    match fault.fault {
+        PcapFault::ReadFault => Fault::Read(FileId::Capture(fault.device)),
+        PcapFault::NoMemory => Fault::Memory,
+        why => Fault::Capture(fault.device, why),
+    }
+}
+
+/// Runs one packet through the chain, puts its number behind `order`, and writes what it sends.
 fn serve_one<F: Files>(
     files: &mut F,
-    output: &str,
-    device: u32,
     chain: &Chain,
     tables: &mut Tables,
+    writers: &mut [Option<Writer>],
     packet: Packet,
-    piece: &mut Vec<u8>,
+    number: u32,
+    order: &mut Vec<u32>,
 ) -> Result<(), Fault>
     requires arrived { packet.layer ≡ layer.Frame }
     requires known { IsThere (entry_of chain.now packet.device) }
     requires stateless { IsStateless chain.now }
     requires seconds_fit { packet.stamp / 1000000000 < 2 ^ 32 }
     requires length { length packet.bytes ≤ 262144 }
-    ensures ok { OnOk result (HasServedOne device chain.now tables.old tables.new packet (F.written files.old output.now) (F.written files.new output.now)) }
-    ensures err { OnErr result (HasBrokenOff device chain.now tables.old packet (F.written files.old output.now) (F.written files.new output.now)) }
-    ensures cause { IfErr result (ServeFault device (F.write_faults files.old output.now) (F.write_faults files.new output.now)) }
+    requires apart { AreFilesApart writers.old }
+    ensures ok { OnOk result (HasServedOne AllGain chain.now writers.old tables.old tables.new packet number
+        (F.written files.old) (F.written files.new) order.old.items order.new.items) }
+    ensures err { OnErr result (HasNotServedOne chain.now writers.old tables.old packet number
+        (F.written files.old) (F.written files.new) order.old.items order.new.items) }
+    ensures cause { IfErr result (OutputFault writers.old (F.write_faults files.old) (F.write_faults files.new)) }
+    ensures names { writers.new ≡ writers.old }
 
-    ensures other_files { IsSameBut output.now (F.written files.old) (F.written files.new) }
+    ensures other_written { IsSameElsewhere writers.old (F.written files.old) (F.written files.new) }
     ensures held { IsSame (F.held files.old) (F.held files.new) }
     ensures read_faults { NeverFell (F.read_faults files.old) (F.read_faults files.new) }
     ensures write_faults { NeverFell (F.write_faults files.old) (F.write_faults files.new) }
@@ -116,39 +128,66 @@ fn serve_one<F: Files>(
         Ok(ran) => ran,
         Err(_) => return Err(Fault::Memory),
     };
-    let Some(sent) = sent_on(device, ran.fate) else {
-        return Ok(());
-    };
-    match fill(piece, &sent) {
+    match order.push(number) {
         Ok(()) => {}
         Err(_) => return Err(Fault::Memory),
     }
-    match write_all(files, output, piece) {
-        Ok(()) => Ok(()),
-        Err(_) => Err(Fault::Write(FileId::Output(device))),
-    }
+    write_fate(files, writers, &ran.fate)
 }
 
-/// What is sent on a device, if something is.
-fn sent_on(device: u32, fate: Fate) -> Option<Stamped>
-    ensures sent { IfSome result (λ sent. fate ≡ fates.Sent device sent) }
-    ensures none { result ≡ None → records_sent device fate ≡ [] }
+/// Writes what a packet sends to the file of its device, if it has one.
+fn write_fate<F: Files>(
+    files: &mut F,
+    writers: &mut [Option<Writer>],
+    fate: &Fate,
+) -> Result<(), Fault>
+    requires writable { IsWritable fate.now }
+    requires apart { AreFilesApart writers.old }
+    ensures ok { OnOk result (AllGain writers.old (F.written files.old) (F.written files.new) (λ device. fate_text device fate.now)) }
+    ensures err { OnErr result (AllGainFront writers.old (F.written files.old) (F.written files.new) (λ device. fate_text device fate.now)) }
+    ensures cause { IfErr result (OutputFault writers.old (F.write_faults files.old) (F.write_faults files.new)) }
+    ensures names { writers.new ≡ writers.old }
+
+    ensures other_written { IsSameElsewhere writers.old (F.written files.old) (F.written files.new) }
+    ensures held { IsSame (F.held files.old) (F.held files.new) }
+    ensures read_faults { NeverFell (F.read_faults files.old) (F.read_faults files.new) }
+    ensures write_faults { NeverFell (F.write_faults files.old) (F.write_faults files.new) }
 {
     match fate {
-        Fate::Sent(on, sent) if on == device => Some(sent),
-        _ => None,
+        Fate::Dropped(_) => Ok(()),
+        Fate::Sent(device, frame) => write_frame(files, writers, *device, frame),
     }
 }
 
-/// Puts the text of a record into a piece.
-fn fill(piece: &mut Vec<u8>, sent: &Stamped) -> Result<(), AllocError>
-    requires seconds_fit { sent.now.stamp / 1000000000 < 2 ^ 32 }
-    requires length { length sent.now.frame ≤ 262144 }
-    ensures { OnOk result (piece.new.items ≡ record_text (sent.now.stamp, sent.now.frame)) }
+/// Writes the record of a frame to the file of a device, if it has one.
+fn write_frame<F: Files>(
+    files: &mut F,
+    writers: &mut [Option<Writer>],
+    device: u32,
+    frame: &Stamped,
+) -> Result<(), Fault>
+    requires seconds_fit { frame.now.stamp / 1000000000 < 2 ^ 32 }
+    requires length { length frame.now.frame < 2 ^ 32 }
+    requires apart { AreFilesApart writers.old }
+    ensures ok { OnOk result (AllGain writers.old (F.written files.old) (F.written files.new) (λ on. fate_text on (fates.Sent device frame.now))) }
+    ensures err { OnErr result (AllGainFront writers.old (F.written files.old) (F.written files.new) (λ on. fate_text on (fates.Sent device frame.now))) }
+    ensures cause { IfErr result (OutputFault writers.old (F.write_faults files.old) (F.write_faults files.new)) }
+    ensures names { writers.new ≡ writers.old }
+
+    ensures other_written { IsSameElsewhere writers.old (F.written files.old) (F.written files.new) }
+    ensures held { IsSame (F.held files.old) (F.held files.new) }
+    ensures read_faults { NeverFell (F.read_faults files.old) (F.read_faults files.new) }
+    ensures write_faults { NeverFell (F.write_faults files.old) (F.write_faults files.new) }
 {
-    let bytes = sent.frame.bytes();
-    piece.clear();
-    piece.extend_from_slice(&record_head(sent.stamp, bytes.len() as u32))?;
-    piece.extend_from_slice(bytes)?;
-    Ok(())
+    if device == 0 || device as usize > writers.len() {
+        return Ok(());
+    }
+    match &mut writers[device as usize - 1] {
+        None => Ok(()),
+        Some(writer) => match writer.put(files, frame) {
+            Ok(()) => Ok(()),
+            Err(WriteFault::Failed) => Err(Fault::Write(FileId::Output(device))),
+            Err(WriteFault::NoMemory) => Err(Fault::Memory),
+        },
+    }
 }

@@ -1,6 +1,8 @@
 //! Runs over files in memory.
+mod devices;
 mod failing;
 mod frames;
+mod lines;
 mod refused;
 
 use crate::{Fault, Outcome, metron};
@@ -62,9 +64,16 @@ fn files(alloc: Global, chain: &str, capture: &[u8]) -> Result<MemoryFiles, Allo
     Ok(files)
 }
 
-fn run(alloc: Global, files: &mut MemoryFiles) -> Result<Outcome, AllocError> {
-    let words = words(alloc, &WORDS)?;
+fn run_words(alloc: Global, list: &[&str], files: &mut MemoryFiles) -> Result<Outcome, AllocError> {
+    let words = words(alloc, list)?;
+    if words.len() > u32::MAX as usize {
+        return Err(AllocError);
+    }
     Ok(metron(alloc, &words, files))
+}
+
+fn run(alloc: Global, files: &mut MemoryFiles) -> Result<Outcome, AllocError> {
+    run_words(alloc, &WORDS, files)
 }
 
 fn check(rt: &impl Abort, outcome: &Outcome, status: u8, fault: Fault, order: &[u32]) {

@@ -1,7 +1,8 @@
 //! Files that fail.
 use super::{HEADER, STRAIGHT, UDP, WORDS, check, files, head, joined, run, words};
-use crate::{Fault, FileId, serve_command};
-use mt_io::Call;
+use crate::{Fault, FileId, Outcome, serve_command};
+use mt_io::{Call, MemoryFiles};
+use std::alloc::{AllocError, Global};
 use std::test::Fail;
 
 #[test]
@@ -10,7 +11,10 @@ fn a_failing_file_is_told(rt: HostRuntime) -> Result<(), Fail> {
     let cases = [
         ("chain", Call::Read, 1, 4, Fault::Read(FileId::Chain), 0),
         ("script", Call::Read, 1, 4, Fault::Read(FileId::Script), 0),
-        ("in", Call::Read, 2, 4, Fault::Read(FileId::Capture(1)), 0),
+        ("in", Call::Read, 1, 4, Fault::Read(FileId::Capture(1)), 0),
+        ("in", Call::Read, 2, 4, Fault::Read(FileId::Capture(1)), 24),
+        ("in", Call::Read, 3, 4, Fault::Read(FileId::Capture(1)), 24),
+        ("in", Call::Read, 4, 4, Fault::Read(FileId::Capture(1)), 86),
         ("out", Call::Write, 1, 6, Fault::Write(FileId::Output(2)), 0),
         (
             "out",
@@ -34,6 +38,14 @@ fn a_failing_file_is_told(rt: HostRuntime) -> Result<(), Fail> {
     Ok(())
 }
 
+fn run_buffered(alloc: Global, files: MemoryFiles) -> Result<(Outcome, MemoryFiles), AllocError> {
+    let words = words(alloc, &WORDS)?;
+    if words.len() > u32::MAX as usize {
+        return Err(AllocError);
+    }
+    Ok(serve_command(alloc, &words, files))
+}
+
 // Through buffers the header goes out at once and the record at the end.
 #[test]
 fn a_run_has_all_written_at_its_end(rt: HostRuntime) -> Result<(), Fail> {
@@ -48,8 +60,7 @@ fn a_run_has_all_written_at_its_end(rt: HostRuntime) -> Result<(), Fail> {
     for (failing, status, fault, order, len) in cases {
         let mut inner = files(alloc, STRAIGHT, &capture)?;
         inner.fail("out", Call::Write, failing)?;
-        let words = words(alloc, &WORDS)?;
-        let (outcome, inner) = serve_command(alloc, &words, inner);
+        let (outcome, inner) = run_buffered(alloc, inner)?;
         check(&rt, &outcome, status, fault, order);
         let written = inner.written("out");
         assert_eq!(rt; written.len(), len);

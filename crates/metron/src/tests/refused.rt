@@ -1,9 +1,10 @@
 //! What is refused before anything is written.
-use super::{HEADER, STRAIGHT, check, files, run, words};
-use crate::{Fault, FileId, metron};
+use super::{HEADER, STRAIGHT, check, files, run, run_words};
+use crate::{Fault, FileId};
 use mt_click::{ClickFault, ClickWhy};
 use mt_elements::{ChainFault, ChainWhy};
 use mt_pcap::PcapFault;
+use mt_script::{ScriptFault, ScriptWhy};
 use std::test::Fail;
 
 #[test]
@@ -11,18 +12,24 @@ fn a_refused_input_leaves_nothing_written(rt: HostRuntime) -> Result<(), Fail> {
     let other_link = [
         0xa1, 0xb2, 0xc3, 0xd4, 0, 2, 0, 4, 0, 0, 0, 0, 0, 0, 0, 0, 0, 0, 0xff, 0xff, 0, 0, 0, 113,
     ];
-    let cases: [(&str, &[u8], u8, Fault); 4] = [
+    let cases: [(&str, &[u8], u8, Fault); 5] = [
         (
             "FromDevice(lan) -> ToDevice(b);",
             &HEADER,
             1,
-            Fault::UsageWord(0),
+            Fault::UsageWord(3),
         ),
         (
             "FromDevice(a) -> ToDevice(a);",
             &HEADER,
             1,
-            Fault::UsageWord(0),
+            Fault::UsageWord(4),
+        ),
+        (
+            "FromDevice(a) -> ToDevice(b); FromDevice(c) -> Discard;",
+            &HEADER,
+            1,
+            Fault::Unbound(2),
         ),
         (
             STRAIGHT,
@@ -43,12 +50,36 @@ fn a_refused_input_leaves_nothing_written(rt: HostRuntime) -> Result<(), Fail> {
         check(&rt, &outcome, status, fault, &[]);
         assert_eq!(rt; files.written("out"), [].as_slice());
     }
-    // A script has no byte yet.
-    let mut files = files(rt.alloc(), STRAIGHT, &HEADER)?;
-    files.hold("script", b"\n")?;
-    let outcome = run(rt.alloc(), &mut files)?;
-    check(&rt, &outcome, 3, Fault::Unbuilt(FileId::Script), &[]);
     Ok(())
+}
+
+#[test]
+fn a_refused_script_leaves_nothing_written(rt: HostRuntime) -> Result<(), Fail> {
+    let cases: [(&str, Fault); 6] = [
+        ("go", script(ScriptWhy::Unknown, 1)),
+        ("feed x", script(ScriptWhy::BadNumber, 1)),
+        ("\n# split\nsplit 1 0", script(ScriptWhy::Missing, 3)),
+        ("drain 1\n", script(ScriptWhy::Extra, 1)),
+        ("drain\n", Fault::Unbuilt(FileId::Script)),
+        ("# nothing\n\n \t\r\n", Fault::Done),
+    ];
+    for (text, fault) in cases {
+        let mut files = files(rt.alloc(), STRAIGHT, &HEADER)?;
+        files.hold("script", text.as_bytes())?;
+        let outcome = run(rt.alloc(), &mut files)?;
+        let status = if fault == Fault::Done { 0 } else { 3 };
+        check(&rt, &outcome, status, fault, &[]);
+        assert_eq!(rt;
+            files.written("out").len(),
+            if status == 0 { 24 } else { 0 }
+        );
+    }
+    Ok(())
+}
+
+/// A fault of a script, at a line.
+fn script(why: ScriptWhy, line: u32) -> Fault {
+    Fault::Script(ScriptFault { line, why })
 }
 
 /// A fault of a chain, at an element and a line.
@@ -58,7 +89,7 @@ fn chain(why: ChainWhy, element: u32, line: u32) -> Fault {
 
 #[test]
 fn a_refused_configuration_leaves_nothing_written(rt: HostRuntime) -> Result<(), Fail> {
-    let cases: [(&str, Fault); 18] = [
+    let cases: [(&str, Fault); 16] = [
         (
             "FromDevice(a) -> Foo -> ToDevice(b);",
             chain(ChainWhy::UnknownClass, 1, 1),
@@ -117,11 +148,6 @@ fn a_refused_configuration_leaves_nothing_written(rt: HostRuntime) -> Result<(),
                 column: 26,
             }),
         ),
-        ("FromDevice(a) -> Discard;", Fault::Unbuilt(FileId::Chain)),
-        (
-            "FromDevice(a) -> c :: Classifier(12/0800, -); c[0] -> ToDevice(a); c[1] -> ToDevice(b);",
-            Fault::Unbuilt(FileId::Chain),
-        ),
         (
             "FromDevice(a) -> Strip(14) -> CheckIPHeader -> IPRewriter(keep 0 0)
                 -> EtherEncap(0x0800, 02:00:00:00:00:0a, 02:00:00:00:00:0b) -> ToDevice(b);",
@@ -139,21 +165,36 @@ fn a_refused_configuration_leaves_nothing_written(rt: HostRuntime) -> Result<(),
 
 #[test]
 fn other_words_are_no_command(rt: HostRuntime) -> Result<(), Fail> {
-    let lists: [&[&str]; 7] = [
-        &[],
-        &["run", "chain", "script", "in:a=in"],
-        &["gen", "chain", "script", "in:a=in", "out:b=out"],
-        &["run", "chain", "script", "out:b=out", "in:a=in"],
-        &["run", "chain", "script", "in:a", "out:b=out"],
-        &["run", "chain", "chain", "in:a=in", "out:b=out"],
-        &["run", "chain", "script", "in:a=-", "out:b=out"],
+    let lists: [(&[&str], u32); 8] = [
+        (&[], 0),
+        (&["gen", "chain", "script", "in:a=in", "out:b=out"], 0),
+        (&["run", "chain"], 2),
+        (
+            &[
+                "run",
+                "--servers=2",
+                "chain",
+                "script",
+                "in:a=in",
+                "out:b=out",
+            ],
+            1,
+        ),
+        (&["run", "chain", "script", "in:a", "out:b=out"], 3),
+        (&["run", "chain", "chain", "in:a=in", "out:b=out"], 2),
+        (&["run", "chain", "script", "in:a=-", "out:b=out"], 3),
+        (&["run", "chain", "script", "in:a=in", "out:b=in"], 4),
     ];
-    for list in lists {
+    for (list, word) in lists {
         let mut files = files(rt.alloc(), STRAIGHT, &HEADER)?;
-        let words = words(rt.alloc(), list)?;
-        let outcome = metron(rt.alloc(), &words, &mut files);
-        check(&rt, &outcome, 1, Fault::UsageWord(0), &[]);
+        let outcome = run_words(rt.alloc(), list, &mut files)?;
+        check(&rt, &outcome, 1, Fault::UsageWord(word), &[]);
         assert_eq!(rt; files.written("out"), [].as_slice());
     }
+    // A device without a file is told by its number.
+    let mut files = files(rt.alloc(), STRAIGHT, &HEADER)?;
+    let list = ["run", "chain", "script", "in:a=in"];
+    let outcome = run_words(rt.alloc(), &list, &mut files)?;
+    check(&rt, &outcome, 1, Fault::Unbound(2), &[]);
     Ok(())
 }

@@ -1,68 +1,126 @@
-use Rattle.std.proofs.Common.{refl, sym, ◌∙◌, ap, subst, arith}
-use Rattle.std.specs.Vec.Iter.{into_iter_items}
-use Rattle.mt_io.specs.Files.{Gains}
-use Rattle.mt_io.specs.Copy.{GainsFront}
-use Rattle.mt_io.specs.Laws.{same_but_twice, same_twice, never_fell_twice}
-use Rattle.metron.proofs.Simple.{one_entry, stateless}
+use Rattle.std.proofs.Common.{◌≡◌, ◌≤◌, ℕ, List, [], ◌∷◌, ◌++◌, length, refl, sym, ◌∙◌, ap, subst, arith, rules, ◌+◌}
+use Rattle.mt_io.specs.Laws.{never_fell_refl, never_fell_twice}
+use Rattle.mt_packet.specs.Packet.{PacketState}
 use Rattle.mt_elements.specs.ChainState.{entry_of}
 use Rattle.mt_chain.specs.Run.{IsThere}
-use Rattle.mt_lists.proofs.Iterated.{with_rest, with_one, at_end}
-use Rattle.metron.proofs.Texts.{counted_more, begun, broken_at_header, only_header, stopped_at, one_served, broken_at, all_served}
+use Rattle.mt_pcap.specs.Merged.{HasMerged}
+use Rattle.mt_pcap.specs.Sources.{names_of, all_left, IsSameBeside}
+use Rattle.metron.specs.Serving.{Outputs, AllGain, IsSameElsewhere, OutputFault, HasServedOne, HasNotServedOne}
+use Rattle.metron.proofs.Outputs.{elsewhere_twice, elsewhere_same}
+use Rattle.metron.proofs.Frames.{beside_twice, beside_same, as_many, starts, still, ends_at_once, goes_on, breaks, ends_done, ends_limit, ends_fault}
 use Rattle.metron.proofs.serve.serve.Goals as goal
 
-pub returns-in-Err-clause-err : goal.returns-in-Err-clause-err
-returns-in-Err-clause-err g c =
-    broken_at_header c.args.device c.args.chain.now c.args.records.items _ _ _ c.requires.first
-    (subst (λ text. GainsFront (g.F.Files.written c.args.files.now c.args.output.now) text (g.F.Files.written c.write_all.new.files c.args.output.now)) c.header.ensures c.in-Err.ensures.prefix)
+pub returns-in-Err-clause-serving : goal.returns-in-Err-clause-serving
+returns-in-Err-clause-serving g c = λ names first merged.
+    ends_at_once c.args.chain.now c.args.writers.now names first c.merges_all.ensures.so_far _ _ c.args.merge.now _ _ _ _ _ _ c.args.order.now.items merged c.requires.none_served (λ name. refl)
 
-pub returns-in-Err-new-clause-err : goal.returns-in-Err-new-clause-err
-returns-in-Err-new-clause-err g c =
-    only_header c.args.device c.args.chain.now c.args.records.items _ _ _ c.requires.first
-    (subst (λ text. Gains (g.F.Files.written c.args.files.now c.args.output.now) text (g.F.Files.written c.write_all.new.files c.args.output.now)) c.header.ensures c.in-Ok.ensures.ok)
-
-pub loop-stamp-init : goal.loop-stamp-init
-loop-stamp-init g c = record {
-  counted = refl;
-  served = begun c.args.device c.args.chain.now c.in-Ok-new.tables _ _ _ c.in-Ok-new.ensures c.requires.first
-      (subst (λ text. Gains (g.F.Files.written c.args.files.now c.args.output.now) text (g.F.Files.written c.write_all.new.files c.args.output.now)) c.header.ensures c.in-Ok.ensures.ok);
-  other_files = c.write_all.ensures.other_files;
-  held = c.write_all.ensures.held;
-  read_faults = c.write_all.ensures.read_faults;
-  write_faults = c.write_all.ensures.write_faults;
+pub loop-merge-init : goal.loop-merge-init
+loop-merge-init g c = record {
+  way = λ names first merged. starts c.args.chain.now c.args.writers.now names first _ c.args.merge.now c.in-Ok.tables _ _ c.args.order.now.items merged c.in-Ok.ensures c.requires.none_served (λ name. refl);
+  few = omega (arith, c.requires.begins);
+  sources = refl;
+  writers = refl;
+  other_held = λ other apart. refl;
+  other_written = λ other apart. refl;
+  read_faults = never_fell_refl _;
+  write_faults = never_fell_refl _;
 }
 
-pub returns-in-Err-push-clause-err : goal.returns-in-Err-push-clause-err
-returns-in-Err-push-clause-err g c =
-    stopped_at c.args.device c.args.chain.now c.loop-stamp.tables c.loop-stamp.yielded c.args.records.items (into_iter_items c.loop-stamp.stamp-iterator) _ _ c.loop-stamp.order.items _
-    (with_rest c.args.records.items c.loop-stamp.yielded c.into_iter-stamp-iterator.result c.loop-stamp.stamp-iterator c.next.new.self c.into_iter-stamp-iterator.ensures.into_iter_gives.0 c.loop-stamp.yielded_by)
-    c.in-Err-push.ensures.items c.loop-stamp.invariant.served
+pub returns-in-Ok-None-clause-serving : goal.returns-in-Ok-None-clause-serving
+returns-in-Ok-None-clause-serving g c = λ names first merged.
+    ends_done c.args.chain.now c.args.writers.now names first (g.F.Files.held c.loop-merge.files) c.loop-merge.merge c.loop-merge.tables _ (g.F.Files.written c.next.new.files) c.loop-merge.order.items
+    (still c.args.chain.now c.args.writers.now names first (g.F.Files.held c.loop-merge.files) c.loop-merge.merge c.loop-merge.tables _ (g.F.Files.written c.loop-merge.files) (g.F.Files.written c.next.new.files) c.loop-merge.order.items
+    c.next.ensures.written (c.loop-merge.invariant.way names first merged))
+    _ _ (g.F.Files.read_faults c.loop-merge.files) _ _ _ c.merges_all.ensures.whole (c.in-Ok-None.ensures.ends c.in-Ok-None.field-0-is)
+
+pub returns-in-Err-next-clause-serving : goal.returns-in-Err-next-clause-serving
+returns-in-Err-next-clause-serving g c = λ names first merged.
+    let way = c.loop-merge.invariant.way names first merged in
+    ends_fault c.args.chain.now c.args.writers.now names first (g.F.Files.held c.loop-merge.files) c.loop-merge.merge c.loop-merge.tables _ (g.F.Files.written c.next.new.files) c.loop-merge.order.items
+    (still c.args.chain.now c.args.writers.now names first (g.F.Files.held c.loop-merge.files) c.loop-merge.merge c.loop-merge.tables _ (g.F.Files.written c.loop-merge.files) (g.F.Files.written c.next.new.files) c.loop-merge.order.items
+    c.next.ensures.written way)
+    _ _ (g.F.Files.read_faults c.loop-merge.files) _ _ _ c.merges_all.ensures.whole c.merges_all.ensures.so_far c.merges_all.ensures.broken c.merges_all.ensures.fails c.in-Err-next.fault.device c.in-Err-next.fault.fault
+    c.merge_fault.result c.merge_fault.ensures c.in-Err-next.ensures.fault (c.in-Err-next.ensures.past_header way.merged.unbroken) c.loop-merge.invariant.read_faults c.in-Err-next.ensures.read_fault c.in-Err-next.ensures.broken
 
 pub serve_one-requires-clause-known : goal.serve_one-requires-clause-known
-serve_one-requires-clause-known g c = subst (λ device. IsThere (entry_of c.args.chain.now device)) (sym (ap (λ p. p.device) c.new-packet.ensures)) (c.devices_have_entries.ensures c.args.chain.now 1 c.is_accepted.ensures.numbered (omega arith) (let one = one_entry c.args.chain.now c.requires.simple in omega (arith, one)))
+serve_one-requires-clause-known g c =
+    let many = as_many c.args.merge.now.sources c.loop-merge.merge.sources c.loop-merge.invariant.sources in
+    let within : (1 ≤ c.in-Ok-Some.frame.device) × (c.in-Ok-Some.frame.device ≤ length c.loop-merge.merge.sources) = search rules in
+    subst (λ device. IsThere (entry_of c.args.chain.now device)) (sym (ap (λ (p : PacketState). p.device) c.new-in-loop-merge.ensures))
+    (c.devices_have_entries.ensures c.args.chain.now c.in-Ok-Some.frame.device c.is_accepted.ensures.numbered (omega (arith, within.0)) (omega (arith, within.1, many, c.requires.known)))
 
-pub serve_one-requires-clause-stateless : goal.serve_one-requires-clause-stateless
-serve_one-requires-clause-stateless g c = stateless c.args.chain.now c.requires.simple
+pub loop-merge-preserved : goal.loop-merge-preserved
+loop-merge-preserved g c =
+    let kept = c.loop-merge.invariant in
+    record {
+      way = λ names first merged.
+          let way = still c.args.chain.now c.args.writers.now names first (g.F.Files.held c.loop-merge.files) c.loop-merge.merge c.loop-merge.tables (g.F.Files.written c.args.files.now) (g.F.Files.written c.loop-merge.files) (g.F.Files.written c.next.new.files) c.loop-merge.order.items
+          c.next.ensures.written (kept.way names first merged) in
+          let more : HasMerged names first (g.F.Files.held c.next.new.files) (way.frames ++ c.in-Ok-Some.frame ∷ []) c.next.new.self =
+          c.merges_all.ensures.on names first (g.F.Files.held c.loop-merge.files) (g.F.Files.held c.next.new.files) way.frames c.loop-merge.merge c.next.new.self c.in-Ok-Some.frame way.merged
+          (search rules) (search rules) (search rules) (search rules) (search rules) (search rules) in
+          goes_on c.args.chain.now c.args.writers.now names first (g.F.Files.held c.loop-merge.files) c.loop-merge.merge c.loop-merge.tables (g.F.Files.written c.args.files.now) (g.F.Files.written c.next.new.files) c.loop-merge.order.items way
+          (g.F.Files.held c.serve_one.new.files) c.next.new.self c.in-Ok-Some.frame c.new-in-loop-merge.result c.in-Ok-Some.frame.number (omega (arith, c.loop-merge-test.true, c.given.ensures)) c.new-in-loop-merge.ensures (search rules)
+          (c.merges_all.ensures.still names first (g.F.Files.held c.next.new.files) (g.F.Files.held c.serve_one.new.files) (way.frames ++ c.in-Ok-Some.frame ∷ []) c.next.new.self c.serve_one.ensures.held more)
+          c.one_packet_behind_others.ensures c.serve_one.new.tables (g.F.Files.written c.serve_one.new.files) c.serve_one.new.order.items
+          (subst (λ (w : Outputs). HasServedOne AllGain c.args.chain.now w c.loop-merge.tables c.serve_one.new.tables c.new-in-loop-merge.result c.in-Ok-Some.frame.number (g.F.Files.written c.next.new.files) (g.F.Files.written c.serve_one.new.files) c.loop-merge.order.items c.serve_one.new.order.items) kept.writers c.in-Ok-serve_one.ensures.ok);
+      few = let room = c.loop-merge-test.true in let given = c.given.ensures in let more : c.next.new.self.given ≡ c.loop-merge.merge.given + 1 = search rules in omega (arith, room, given, more);
+      sources = c.next.ensures.names ∙ kept.sources;
+      writers = c.serve_one.ensures.names ∙ kept.writers;
+      other_held = beside_twice (names_of c.args.merge.now.sources) _ _ _ (beside_twice (names_of c.args.merge.now.sources) _ _ _ kept.other_held (subst (λ (l : List (List ℕ)). IsSameBeside l (g.F.Files.held c.loop-merge.files) (g.F.Files.held c.next.new.files)) kept.sources c.next.ensures.other_files))
+          (beside_same (names_of c.args.merge.now.sources) _ _ c.serve_one.ensures.held);
+      other_written = elsewhere_twice c.args.writers.now _ _ _ (elsewhere_twice c.args.writers.now _ _ _ kept.other_written (elsewhere_same c.args.writers.now _ _ c.next.ensures.written))
+          (subst (λ (w : Outputs). IsSameElsewhere w (g.F.Files.written c.next.new.files) (g.F.Files.written c.serve_one.new.files)) kept.writers c.serve_one.ensures.other_written);
+      read_faults = never_fell_twice _ _ _ (never_fell_twice _ _ _ kept.read_faults c.next.ensures.read_faults) c.serve_one.ensures.read_faults;
+      write_faults = never_fell_twice _ _ _ (never_fell_twice _ _ _ kept.write_faults c.next.ensures.write_faults) c.serve_one.ensures.write_faults;
+    }
 
-pub returns-in-Err-serve_one-clause-err : goal.returns-in-Err-serve_one-clause-err
-returns-in-Err-serve_one-clause-err g c =
-    broken_at c.args.device c.args.chain.now c.loop-stamp.tables c.loop-stamp.yielded (c.in-Some.stamp, c.in-Some.frame) _ _ c.loop-stamp.order.items c.loop-stamp.invariant.served c.one_packet_behind_others.ensures
-    c.args.records.items (into_iter_items c.next.new.self) c.new-packet.result _ _ c.loop-stamp.number c.loop-stamp.invariant.counted c.in-Ok-push.ensures.items
-    (with_one c.args.records.items c.loop-stamp.yielded c.into_iter-stamp-iterator.result c.loop-stamp.stamp-iterator c.next.new.self c.into_iter-stamp-iterator.ensures.into_iter_gives.0 c.loop-stamp.yielded_by (c.in-Some.stamp, c.in-Some.frame) c.in-Some.ensures.steps)
-    c.new-packet.ensures c.in-Err-serve_one.ensures.err
+pub returns-in-Err-serve_one-clause-serving : goal.returns-in-Err-serve_one-clause-serving
+returns-in-Err-serve_one-clause-serving g c = λ names first merged.
+    let kept = c.loop-merge.invariant in
+    let way = still c.args.chain.now c.args.writers.now names first (g.F.Files.held c.loop-merge.files) c.loop-merge.merge c.loop-merge.tables (g.F.Files.written c.args.files.now) (g.F.Files.written c.loop-merge.files) (g.F.Files.written c.next.new.files) c.loop-merge.order.items
+    c.next.ensures.written (kept.way names first merged) in
+    let more : HasMerged names first (g.F.Files.held c.next.new.files) (way.frames ++ c.in-Ok-Some.frame ∷ []) c.next.new.self =
+    c.merges_all.ensures.on names first (g.F.Files.held c.loop-merge.files) (g.F.Files.held c.next.new.files) way.frames c.loop-merge.merge c.next.new.self c.in-Ok-Some.frame way.merged
+    (search rules) (search rules) (search rules) (search rules) (search rules) (search rules) in
+    breaks c.args.chain.now c.args.writers.now names first (g.F.Files.held c.loop-merge.files) c.loop-merge.merge c.loop-merge.tables (g.F.Files.written c.args.files.now) (g.F.Files.written c.next.new.files) c.loop-merge.order.items way
+    (g.F.Files.held c.next.new.files) c.next.new.self c.in-Ok-Some.frame c.new-in-loop-merge.result c.in-Ok-Some.frame.number (omega (arith, c.loop-merge-test.true, c.given.ensures)) c.new-in-loop-merge.ensures (search rules) more
+    c.merges_all.ensures.so_far c.one_packet_behind_others.ensures _ (g.F.Files.written c.serve_one.new.files) c.serve_one.new.order.items c.in-Err-serve_one.fault _ _ _ (g.F.Files.write_faults c.next.new.files) _
+    (subst (λ (w : Outputs). HasNotServedOne c.args.chain.now w c.loop-merge.tables c.new-in-loop-merge.result c.in-Ok-Some.frame.number (g.F.Files.written c.next.new.files) (g.F.Files.written c.serve_one.new.files) c.loop-merge.order.items c.serve_one.new.order.items) kept.writers c.in-Err-serve_one.ensures.err)
+    (never_fell_twice _ _ _ kept.write_faults c.next.ensures.write_faults)
+    (subst (λ (w : Outputs). OutputFault w (g.F.Files.write_faults c.next.new.files) (g.F.Files.write_faults c.serve_one.new.files) c.in-Err-serve_one.fault) kept.writers c.in-Err-serve_one.ensures.cause)
 
-pub loop-stamp-preserved : goal.loop-stamp-preserved
-loop-stamp-preserved g c = record {
-  counted = counted_more c.loop-stamp.number c.loop-stamp.yielded (c.in-Some.stamp, c.in-Some.frame) c.loop-stamp.invariant.counted;
-  served = one_served c.args.device c.args.chain.now c.loop-stamp.tables c.loop-stamp.yielded (c.in-Some.stamp, c.in-Some.frame) _ _ c.loop-stamp.order.items c.loop-stamp.invariant.served c.one_packet_behind_others.ensures
-      c.serve_one.new.tables c.new-packet.result _ _ c.loop-stamp.number c.loop-stamp.invariant.counted c.in-Ok-push.ensures.items c.new-packet.ensures c.in-Ok-serve_one.ensures.ok;
-  other_files = same_but_twice _ _ _ _ c.loop-stamp.invariant.other_files c.serve_one.ensures.other_files;
-  held = same_twice _ _ _ c.loop-stamp.invariant.held c.serve_one.ensures.held;
-  read_faults = never_fell_twice _ _ _ c.loop-stamp.invariant.read_faults c.serve_one.ensures.read_faults;
-  write_faults = never_fell_twice _ _ _ c.loop-stamp.invariant.write_faults c.serve_one.ensures.write_faults;
-}
+pub returns-in-Err-serve_one-clause-other_held : goal.returns-in-Err-serve_one-clause-other_held
+returns-in-Err-serve_one-clause-other_held g c =
+    let kept = c.loop-merge.invariant in
+    beside_twice (names_of c.args.merge.now.sources) _ _ _ (beside_twice (names_of c.args.merge.now.sources) _ _ _ kept.other_held (subst (λ (l : List (List ℕ)). IsSameBeside l (g.F.Files.held c.loop-merge.files) (g.F.Files.held c.next.new.files)) kept.sources c.next.ensures.other_files))
+    (beside_same (names_of c.args.merge.now.sources) _ _ c.serve_one.ensures.held)
 
-pub returns-clause-ok : goal.returns-clause-ok
-returns-clause-ok g c =
-    all_served c.args.device c.args.chain.now c.loop-stamp.tables c.loop-stamp.yielded c.args.records.items _ _ _
-    (at_end c.args.records.items c.loop-stamp.yielded c.into_iter-stamp-iterator.result c.loop-stamp.stamp-iterator c.next.new.self c.into_iter-stamp-iterator.ensures.into_iter_gives.0 c.loop-stamp.yielded_by (c.into_iter-stamp-iterator.ensures.into_iter_gives.1 ∙ c.args.records.ok.0) c.in-None.ensures.steps)
-    c.loop-stamp.invariant.served
+pub returns-in-Err-serve_one-clause-other_written : goal.returns-in-Err-serve_one-clause-other_written
+returns-in-Err-serve_one-clause-other_written g c =
+    let kept = c.loop-merge.invariant in
+    elsewhere_twice c.args.writers.now _ _ _ (elsewhere_twice c.args.writers.now _ _ _ kept.other_written (elsewhere_same c.args.writers.now _ _ c.next.ensures.written))
+    (subst (λ (w : Outputs). IsSameElsewhere w (g.F.Files.written c.next.new.files) (g.F.Files.written c.serve_one.new.files)) kept.writers c.serve_one.ensures.other_written)
+
+pub returns-in-Ok-Some-next-clause-serving : goal.returns-in-Ok-Some-next-clause-serving
+returns-in-Ok-Some-next-clause-serving g c = λ names first merged.
+    ends_limit c.args.chain.now c.args.writers.now names first (g.F.Files.held c.loop-merge.files) c.loop-merge.merge c.loop-merge.tables _ (g.F.Files.written c.next-2.new.files) c.loop-merge.order.items
+    (still c.args.chain.now c.args.writers.now names first (g.F.Files.held c.loop-merge.files) c.loop-merge.merge c.loop-merge.tables _ (g.F.Files.written c.loop-merge.files) (g.F.Files.written c.next-2.new.files) c.loop-merge.order.items
+    c.next-2.ensures.written (c.loop-merge.invariant.way names first merged))
+    _ _ (g.F.Files.read_faults c.loop-merge.files) _ _ _ c.merges_all.ensures.full c.in-Ok-Some-next.field-0-0 (all_left (g.F.Files.held c.next-2.new.files) c.next-2.new.self.sources) (omega (arith, c.loop-merge-test.false, c.given.ensures)) (search rules)
+
+pub returns-in-Ok-None-next-clause-serving : goal.returns-in-Ok-None-next-clause-serving
+returns-in-Ok-None-next-clause-serving g c = λ names first merged.
+    ends_done c.args.chain.now c.args.writers.now names first (g.F.Files.held c.loop-merge.files) c.loop-merge.merge c.loop-merge.tables _ (g.F.Files.written c.next-2.new.files) c.loop-merge.order.items
+    (still c.args.chain.now c.args.writers.now names first (g.F.Files.held c.loop-merge.files) c.loop-merge.merge c.loop-merge.tables _ (g.F.Files.written c.loop-merge.files) (g.F.Files.written c.next-2.new.files) c.loop-merge.order.items
+    c.next-2.ensures.written (c.loop-merge.invariant.way names first merged))
+    _ _ (g.F.Files.read_faults c.loop-merge.files) _ _ _ c.merges_all.ensures.whole (c.in-Ok-None-next.ensures.ends c.in-Ok-None-next.field-0-is)
+
+pub returns-clause-serving : goal.returns-clause-serving
+returns-clause-serving g c = λ names first merged.
+    let way = c.loop-merge.invariant.way names first merged in
+    ends_fault c.args.chain.now c.args.writers.now names first (g.F.Files.held c.loop-merge.files) c.loop-merge.merge c.loop-merge.tables _ (g.F.Files.written c.next-2.new.files) c.loop-merge.order.items
+    (still c.args.chain.now c.args.writers.now names first (g.F.Files.held c.loop-merge.files) c.loop-merge.merge c.loop-merge.tables _ (g.F.Files.written c.loop-merge.files) (g.F.Files.written c.next-2.new.files) c.loop-merge.order.items
+    c.next-2.ensures.written way)
+    _ _ (g.F.Files.read_faults c.loop-merge.files) _ _ _ c.merges_all.ensures.whole c.merges_all.ensures.so_far c.merges_all.ensures.broken c.merges_all.ensures.fails c.in-Err-next-2.fault.device c.in-Err-next-2.fault.fault
+    c.merge_fault-in-Err-next-2.result c.merge_fault-in-Err-next-2.ensures c.in-Err-next-2.ensures.fault (c.in-Err-next-2.ensures.past_header way.merged.unbroken) c.loop-merge.invariant.read_faults c.in-Err-next-2.ensures.read_fault c.in-Err-next-2.ensures.broken

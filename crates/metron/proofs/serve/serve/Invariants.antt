@@ -1,15 +1,25 @@
-use Rattle.std.proofs.Common.{◌≡◌, length}
-use Rattle.mt_io.specs.Files.{IsSame, IsSameBut, NeverFell}
-use Rattle.metron.proofs.Texts.{IsAt}
+use Rattle.std.proofs.Common.{◌≡◌, ◌≤◌, ◌-◌, ℕ, List, []}
+use Rattle.mt_io.specs.Files.{NeverFell}
+use Rattle.mt_pcap.specs.Merge.{most_frames}
+use Rattle.mt_pcap.specs.Merged.{HasMerged}
+use Rattle.mt_pcap.specs.Sources.{names_of, IsSameBeside}
+use Rattle.metron.specs.Serving.{Held, IsSameElsewhere}
+use Rattle.metron.proofs.Frames.{IsUnderWay}
 use Rattle.metron.proofs.serve.serve.Given as goal
 
--- so many records were served
-abbrev pub invariant-loop-stamp : goal.invariant-loop-stamp
-invariant-loop-stamp g l = record {
-  counted : l.number ≡ length l.yielded;
-  served : IsAt l.device l.chain l.tables l.yielded (g.F.Files.written l.fn.files l.output) (g.F.Files.written l.files l.output) l.order.items;
-  other_files : IsSameBut l.output (g.F.Files.written l.fn.files) (g.F.Files.written l.files);
-  held : IsSame (g.F.Files.held l.fn.files) (g.F.Files.held l.files);
+-- so many frames were served
+abbrev pub invariant-loop-merge : goal.invariant-loop-merge
+invariant-loop-merge g l = record {
+  way : (names : List (List ℕ)) (first : Held) → HasMerged names first (g.F.Files.held l.fn.files) [] l.fn.merge
+      → IsUnderWay l.chain l.fn.writers names first (g.F.Files.held l.files) l.merge l.tables (g.F.Files.written l.fn.files) (g.F.Files.written l.files) l.order.items;
+  few : l.merge.given ≤ most_frames;
+  sources : names_of l.merge.sources ≡ names_of l.fn.merge.sources;
+  writers : l.writers ≡ l.fn.writers;
+  other_held : IsSameBeside (names_of l.fn.merge.sources) (g.F.Files.held l.fn.files) (g.F.Files.held l.files);
+  other_written : IsSameElsewhere l.fn.writers (g.F.Files.written l.fn.files) (g.F.Files.written l.files);
   read_faults : NeverFell (g.F.Files.read_faults l.fn.files) (g.F.Files.read_faults l.files);
   write_faults : NeverFell (g.F.Files.write_faults l.fn.files) (g.F.Files.write_faults l.files);
 }
+
+abbrev pub decreases-loop-merge : goal.decreases-loop-merge
+decreases-loop-merge g l = most_frames - l.merge.given
