@@ -19,7 +19,7 @@ use Rattle.mt_click.specs.Walk.{Walked, walked}
 use Rattle.mt_click.specs.Spread.{actions_of_tree}
 use Rattle.mt_click.specs.Sound.{AreWithin, AreNamesApart, AreArgumentsFew}
 use Rattle.mt_click.specs.Building.{built_in, IsWalked, Finds}
-use Rattle.mt_click.specs.Graphs.{IsGraph, IsFault, Parses, IsOnly, Refuses}
+use Rattle.mt_click.specs.Graphs.{IsGraph, IsFault, Parses, IsOnly, OneReading, Refuses}
 use Rattle.mt_click.proofs.ActionsAgree.{actions_agree}
 use Rattle.mt_click.proofs.WalkExpands.{walk_expands, expands_walk}
 use Rattle.mt_click.proofs.ConnectionsWhole.{expands_connected}
@@ -116,6 +116,14 @@ module _ (laws : TextLaws) where
     (λ g i. let w = undenoted text g i in ok_or_fault w.state f (built_in text) w.walk b),
     (λ other is. p ∙ ap (located text) (same_fault f other (built_in text) b (fault_undenoted text other is))),
   )
+
+  -- a text has one graph, or else one fault
+  pub reads_once : OneReading
+  reads_once = record {
+    graph = λ text g i. only text g (undenoted text g i);
+    either = λ text g f i at. let w = undenoted text g i in ok_or_fault w.state f (built_in text) w.walk (fault_undenoted text f at);
+    fault = λ text f g at other. same_fault f g (built_in text) (fault_undenoted text f at) (fault_undenoted text g other);
+  }
 
   names : (text : List ℕ) (g : Graph) → IsWalked text g → AreNamesApart g.elements.items
   names text g w =

@@ -52,3 +52,9 @@ HasNone text = (g : Graph) → IsGraph text g → ⊥
 abbrev pub Refuses : List ℕ → Result Graph ClickFault → Type 0
 Refuses text (Ok g) = Unit {0}
 Refuses text (Err e) = (e ≡ no_memory) ⊎ (HasNone text × ((f : Fault) → IsFault text f → e ≡ located text f))
+
+-- a text has one graph, or else one fault
+pub record OneReading : Type 0 where
+  pub graph : (text : List ℕ) (g : Graph) → IsGraph text g → IsOnly text g
+  pub either : (text : List ℕ) (g : Graph) (f : Fault) → IsGraph text g → IsFault text f → ⊥
+  pub fault : (text : List ℕ) (f g : Fault) → IsFault text f → IsFault text g → f ≡ g

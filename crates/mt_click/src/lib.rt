@@ -6,6 +6,7 @@
 mod action;
 mod configuration;
 mod connections;
+pub mod laws;
 mod names;
 mod perform;
 mod resolving;
