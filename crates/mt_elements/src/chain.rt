@@ -161,6 +161,13 @@ impl Chain {
         &self.sizes
     }
 
+    /// The patterns of each mapper, by the mapper's number.
+    pub fn templates(&self) -> &[Templates]
+        ensures { result.now ≡ mappers_of self.now.kinds }
+    {
+        self.layout.mappers()
+    }
+
     /// What a server needs of the chain's rewriters.
     pub fn into_rewriters(self) -> Rewriters
         ensures specs { map (λ v. v.items) result.specs.items ≡ map specs_in self.kinds }

@@ -11,7 +11,7 @@ mod mapping;
 mod store;
 
 pub use keys::{ForwardKey, ReplyKey};
-pub use mapping::{Mapping, Meeting, OpenFault};
+pub use mapping::{Mapping, Meeting, OpenFault, reversed};
 pub use store::Store;
 
 #[cfg(test)]

@@ -1,0 +1,10 @@
+pub mod Decisions
+pub mod Exhausting
+pub mod First
+pub mod Free
+pub mod KeptTables
+pub mod Leading
+pub mod Openings
+pub mod Remembered
+pub mod Rings
+pub mod Undoing

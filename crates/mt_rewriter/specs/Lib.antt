@@ -1,0 +1,4 @@
+pub mod Kept
+pub mod Mappings
+pub mod Passages
+pub mod Tries
