@@ -1,6 +1,6 @@
 -- A packet keeps on its way when and where it arrived, and never grows.
 use Rattle.std.proofs.Common.{◌≡◌, ◌∙◌, sym, ap, subst, refl, ℕ, zero, suc, ◌+◌, ◌-◌, ◌≤◌, Bool, true, false, List, length, arith}
-use Rattle.std.specs.Prelude.{Option, Some, None, IfSome, if◌then◌else◌, nat_le, slice_get, option_map, option_and_then}
+use Rattle.std.specs.Prelude.{Option, Some, None, Result, Ok, Err, ⊤, IfSome, if◌then◌else◌, nat_le, slice_get, option_map, option_and_then}
 use Rattle.std.proofs.lemmas.List.{length-drop}
 use Rattle.std.proofs.lemmas.Bool.{leb-true}
 use Rattle.mt_packet.specs.Flow.{packet_flow}
@@ -26,9 +26,21 @@ use Rattle.mt_chain.specs.declared.run.Fate.TheVariants.{Sent, Dropped}
 use Rattle.mt_chain.specs.declared.step.Ending.TheVariants as ending
 use Rattle.mt_chain.specs.declared.walk.Next.{Next}
 use Rattle.mt_chain.specs.declared.walk.Next.TheVariants.{Goes, Ends}
-use Rattle.mt_chain.specs.Run.{TablesState, State, Run, with_packet, element_step, next_after, follow, goes_on, run_from, run_packet}
-use Rattle.mt_elements.specs.ChainState.{entry_of}
-use Rattle.mt_chain.specs.Kept.{IsKept, ComesFrom}
+use Rattle.mt_elements.specs.ChainState.{IsKind, entry_of, mappers_of}
+use Rattle.std.specs.Result.{result_ok}
+use Rattle.std.proofs.lemmas.Bool.{false≢true}
+use Rattle.std.proofs.lemmas.Option.{none-some}
+use Rattle.mt_kinds.specs.declared.rewriter.Spec.{Spec}
+use Rattle.mt_rewriter.specs.Kept.{AreTables, DecisionsKeep, MappingsStay}
+use Rattle.mt_rewriter.specs.Mappings.{TablesState}
+use Rattle.mt_rewriter.specs.Passages.{decide_for}
+use Rattle.mt_rewriter.specs.declared.passage.Decision.{Decision}
+use Rattle.mt_rewriter.specs.declared.passage.Passage.{Passage}
+use Rattle.mt_rewriter.specs.declared.passage.Passage.TheVariants.{Rewritten, Passed}
+use Rattle.mt_rewriter.specs.declared.passage.Passage.TheVariants as passage
+use Rattle.mt_chain.specs.Rewriting.{with_flow, annotated, passed}
+use Rattle.mt_chain.specs.Run.{State, Run, Answer, with_packet, by_decision, at_input, rewriter_step, element_step, next_after, follow, goes_on, at_element, run_from, run_answer, run_packet, IsStateless, IsThere}
+use Rattle.mt_chain.specs.Kept.{IsKept, ComesFrom, Stays}
 use Rattle.mt_chain.proofs.Sizes.{length-with_field, length-with_datagram, checked_no_longer}
 
 pub same : (p : PacketState) → IsKept p p
@@ -194,6 +206,19 @@ pub step_kept : (kind : Kind) (p : PacketState) → Keeps p (stateless_step kind
 unfolding stateless_step
 step_kept kind p = by_test p (takes kind p.layer) (class_step kind p) None (λ h. class_kept kind p h) tt
 
+-- ---- a rewriter
+
+flow_kept : (p : PacketState) (flow : Flow) → IsKept p (with_flow p flow)
+flow_kept p flow = twice p _ _ (two_fields_kept p of.Src of.Sport _ _) (two_fields_kept _ of.Dst of.Dport _ _)
+
+annotated_kept : (p : PacketState) → IsKept p (annotated p)
+annotated_kept p = field_kept p of.Annotation _
+
+passed_kept : (p : PacketState) (passage : Passage) → IsKept p (passed passage p).0
+passed_kept p (Rewritten meeting) = twice p _ _ (flow_kept p meeting.after) (annotated_kept (with_flow p meeting.after))
+passed_kept p (Passed out) = annotated_kept p
+passed_kept p (passage.Dropped why) = same p
+
 -- ---- a run
 
 came_from : (p q : PacketState) (fate : Fate) → IsKept p q → ComesFrom q fate → ComesFrom p fate
@@ -201,85 +226,105 @@ came_from p q (Sent device frame) kept h =
     (h.0 ∙ kept.stamp, h.1 ∙ kept.device, h.2 ∙ kept.number, let size = kept.size in let long = h.3 in omega (arith, size, long))
 came_from p q (Dropped why) kept h = tt
 
-abbrev RunsFrom : PacketState → Option Run → Type 0
-RunsFrom p found = IfSome found (λ run. ComesFrom p run.fate)
+module _ (keep : DecisionsKeep) (stay : MappingsStay) (chain : ChainState) (picks : List ℕ) where
+  -- What is sent comes from the packet, what holds of tables still holds, no mapping has left, and no pick is wrong
+  -- where there is no rewriter.
+  abbrev Keeps-run : PacketState → TablesState → Answer Run → Type 0
+  Keeps-run p tables None = ⊤
+  Keeps-run p tables (Some (Ok run)) = ComesFrom p run.fate × AreTables chain run.tables × Stays tables run.tables
+  Keeps-run p tables (Some (Err place)) = IsStateless chain → ⊥
 
-module _ (chain : ChainState) (most : ℕ) (again : (port : ℕ × ℕ) (state : State) → RunsFrom state.packet (run_from most chain port state)) (p : PacketState) where
-  by_next : (state : State) → IsKept p state.packet → (next : Option Next) → RunsFrom p (option_and_then (follow (run_from most chain) state) next)
-  by_next state kept None = tt
-  by_next state kept (Some (Goes element input)) = either (run_from most chain (element, input) state) (again (element, input) state)
+  abbrev Keeps-step : PacketState → TablesState → Answer (State × Exit) → Type 0
+  Keeps-step p tables None = ⊤
+  Keeps-step p tables (Some (Ok after)) = IsKept p after.0.packet × AreTables chain after.0.tables × Stays tables after.0.tables
+  Keeps-step p tables (Some (Err place)) = IsStateless chain → ⊥
+
+  -- ---- one element
+
+  plain_keeps : (state : State) (after : Option (PacketState × Exit)) → AreTables chain state.tables → Keeps state.packet after → Keeps-step state.packet state.tables (option_map (with_packet state) after)
+  plain_keeps state None kept h = tt
+  plain_keeps state (Some after) kept h = (h, kept, λ m there. there)
+
+  module _ (port : ℕ × ℕ) (specs : List Spec) (stands : IsKind chain port.0 (IPRewriter specs)) (state : State) (kept : AreTables chain state.tables) where
+    never_stateless : IsStateless chain → ⊥
+    never_stateless stateless = false≢true (sym (stateless port.0 (IPRewriter specs) stands))
+
+    decided_keeps : (spec : Spec) → slice_get specs port.1 ≡ Some spec → (result : Result Decision ℕ)
+        → decide_for (mappers_of chain.kinds) chain.pools picks state.tables port.0 port.1 state.used spec (packet_flow state.packet) ≡ result → Keeps-step state.packet state.tables (by_decision state result)
+    decided_keeps spec at (Ok decision) is = (
+      passed_kept state.packet decision.passage,
+      keep chain port.0 port.1 specs spec stands at state.tables picks state.used (packet_flow state.packet) decision kept is,
+      stay (mappers_of chain.kinds) chain.pools picks state.tables port.0 port.1 state.used spec (packet_flow state.packet) decision is,
+    )
+    decided_keeps spec at (Err place) is = never_stateless
+
+    input_keeps : (found : Option Spec) → slice_get specs port.1 ≡ found → Keeps-step state.packet state.tables (at_input (mappers_of chain.kinds) chain.pools picks port state found)
+    input_keeps None at = tt
+    input_keeps (Some spec) at = decided_keeps spec at _ refl
+
+    rewriter_keeps : Keeps-step state.packet state.tables (rewriter_step (mappers_of chain.kinds) chain.pools picks port specs state)
+    unfolding rewriter_step
+    rewriter_keeps = either (is_ip state.packet.layer)
+      where
+        either : (b : Bool) → Keeps-step state.packet state.tables (if b then at_input (mappers_of chain.kinds) chain.pools picks port state (slice_get specs port.1) else None)
+        either true = input_keeps (slice_get specs port.1) refl
+        either false = tt
+
+  element_keeps : (port : ℕ × ℕ) (state : State) (kind : Kind) → IsKind chain port.0 kind → AreTables chain state.tables
+      → Keeps-step state.packet state.tables (element_step (mappers_of chain.kinds) chain.pools picks port kind state)
+  element_keeps port state (IPRewriter specs) is kept = rewriter_keeps port specs is state kept
+  element_keeps port state kind is kept = plain_keeps state (stateless_step kind state.packet) kept (step_kept kind state.packet)
+
+  -- ---- all of them
+
+  module _ (most : ℕ) (again : (port : ℕ × ℕ) (state : State) → AreTables chain state.tables → Keeps-run state.packet state.tables (run_from most chain picks port state)) (p : PacketState) (before : TablesState) where
+    by_next : (state : State) → IsKept p state.packet → AreTables chain state.tables → Stays before state.tables → (next : Option Next) → Keeps-run p before (option_and_then (follow picks (run_from most chain picks) state) next)
+    by_next state same tables stays None = tt
+    by_next state same tables stays (Some (Goes element input)) = either (run_from most chain picks (element, input) state) (again (element, input) state tables)
+      where
+        either : (answer : Answer Run) → Keeps-run state.packet state.tables answer → Keeps-run p before answer
+        either None h = tt
+        either (Some (Ok run)) h = (came_from p state.packet run.fate same h.0, h.1, λ m there. h.2 m (stays m there))
+        either (Some (Err place)) h = h
+    by_next state same tables stays (Some (Ends (ending.Sent device))) =
+        ((same.stamp, same.device, same.number, let size = same.size in omega (arith, size)), tables, stays)
+    by_next state same tables stays (Some (Ends (ending.Dropped why))) = (tt, tables, stays)
+
+    by_step : (element : ℕ) (kind : Kind) (answer : Answer (State × Exit)) → Keeps-step p before answer → Keeps-run p before (option_and_then (goes_on chain picks element kind (run_from most chain picks)) answer)
+    by_step element kind None h = tt
+    by_step element kind (Some (Ok after)) h = by_next after.0 h.0 h.1 h.2 (next_after chain element kind after.1)
+    by_step element kind (Some (Err place)) h = h
+
+  by_kind : (most : ℕ) → ((port : ℕ × ℕ) (state : State) → AreTables chain state.tables → Keeps-run state.packet state.tables (run_from most chain picks port state)) → (port : ℕ × ℕ) (state : State) → AreTables chain state.tables
+      → (found : Option Kind) → slice_get chain.kinds port.0 ≡ found → Keeps-run state.packet state.tables (option_and_then (at_element chain picks port state (run_from most chain picks)) found)
+  by_kind most again port state kept None is = tt
+  by_kind most again port state kept (Some kind) is = by_step most again state.packet state.tables port.0 kind _ (element_keeps port state kind is kept)
+
+  along : (most : ℕ) (port : ℕ × ℕ) (state : State) → AreTables chain state.tables → Keeps-run state.packet state.tables (run_from most chain picks port state)
+  unfolding run_from
+  along zero port state kept = tt
+  along (suc most) port state kept = by_kind most (λ port' state' kept'. along most port' state' kept') port state kept (slice_get chain.kinds port.0) refl
+
+  entered_keeps : (tables : TablesState) (packet : PacketState) → AreTables chain tables → (found : Option ℕ)
+      → Keeps-run packet tables (option_and_then (λ entry. run_from (suc (length chain.wires)) chain picks (entry, 0) (record { packet = packet; tables = tables; used = 0 })) found)
+  entered_keeps tables packet kept None = tt
+  entered_keeps tables packet kept (Some entry) = along (suc (length chain.wires)) (entry, 0) _ kept
+
+  answer_keeps : (tables : TablesState) (packet : PacketState) → AreTables chain tables → Keeps-run packet tables (run_answer chain tables packet picks)
+  unfolding run_answer
+  answer_keeps tables packet kept = entered_keeps tables packet kept (entry_of chain packet.device)
+
+  -- what a run sends comes from its packet, and its tables hold what tables hold
+  pub run_keeps : (tables : TablesState) (packet : PacketState) (run : Run) → AreTables chain tables → run_answer chain tables packet picks ≡ Some (Ok run)
+      → ComesFrom packet run.fate × AreTables chain run.tables × Stays tables run.tables
+  run_keeps tables packet run kept is = subst (Keeps-run packet tables) is (answer_keeps tables packet kept)
+
+  -- without a rewriter no pick is wrong
+  pub run_there : (tables : TablesState) (packet : PacketState) → AreTables chain tables → IsStateless chain → IsThere (run_answer chain tables packet picks) → IsThere (run_packet chain tables packet picks)
+  unfolding run_packet
+  run_there tables packet kept stateless there = either (run_answer chain tables packet picks) there (answer_keeps tables packet kept)
     where
-      either : (found : Option Run) → RunsFrom state.packet found → RunsFrom p found
-      either None h = tt
-      either (Some run) h = came_from p state.packet run.fate kept h
-  by_next state kept (Some (Ends (ending.Sent device))) =
-      (kept.stamp, kept.device, kept.number, let size = kept.size in omega (arith, size))
-  by_next state kept (Some (Ends (ending.Dropped why))) = tt
-
-  by_step : (element : ℕ) (kind : Kind) (state : State) (after : Option (PacketState × Exit)) → Keeps p after
-      → RunsFrom p (option_and_then (goes_on chain element kind (run_from most chain)) (option_map (with_packet state) after))
-  by_step element kind state None h = tt
-  by_step element kind state (Some after) h = by_next (record state { packet = after.0 }) h (next_after chain element kind after.1)
-
-  by_kind : (port : ℕ × ℕ) (state : State) → state.packet ≡ p → (found : Option Kind)
-      → RunsFrom p (option_and_then (λ kind. option_and_then (goes_on chain port.0 kind (run_from most chain)) (element_step kind port.1 state)) found)
-  by_kind port state is None = tt
-  by_kind port state is (Some kind) = by_step port.0 kind state (stateless_step kind state.packet) (subst (λ q. Keeps q (stateless_step kind state.packet)) is (step_kept kind state.packet))
-
-along : (most : ℕ) (chain : ChainState) (port : ℕ × ℕ) (state : State) → RunsFrom state.packet (run_from most chain port state)
-unfolding run_from
-along zero chain port state = tt
-along (suc most) chain port state = by_kind chain most (λ port' state'. along most chain port' state') state.packet port state refl (slice_get chain.kinds port.0)
-
--- what a run sends comes from its packet
-pub run_kept : (chain : ChainState) (tables : TablesState) (packet : PacketState) (picks : List ℕ) → RunsFrom packet (run_packet chain tables packet picks)
-unfolding run_packet
-run_kept chain tables packet picks = entered (entry_of chain packet.device)
-  where
-    entered : (found : Option ℕ) → RunsFrom packet (option_and_then (λ entry. run_from (suc (length chain.wires)) chain (entry, 0) (record { packet = packet; tables = tables; picks = picks })) found)
-    entered None = tt
-    entered (Some entry) = along (suc (length chain.wires)) chain (entry, 0) _
-
-pub sent_from : (chain : ChainState) (tables : TablesState) (packet : PacketState) (picks : List ℕ) (run : Run) → run_packet chain tables packet picks ≡ Some run → ComesFrom packet run.fate
-sent_from chain tables packet picks run is = subst (λ found. RunsFrom packet found) is (run_kept chain tables packet picks)
-
--- ---- picks
-
--- what is left of the picks: all, since no element that there is picks a port
-abbrev LeavesPicks : List ℕ → Option Run → Type 0
-LeavesPicks picks found = IfSome found (λ run. run.picks ≡ picks)
-
-module _ (chain : ChainState) (most : ℕ) (picks : List ℕ) (again : (port : ℕ × ℕ) (state : State) → state.picks ≡ picks → LeavesPicks picks (run_from most chain port state)) where
-  picks_next : (state : State) → state.picks ≡ picks → (next : Option Next) → LeavesPicks picks (option_and_then (follow (run_from most chain) state) next)
-  picks_next state is None = tt
-  picks_next state is (Some (Goes element input)) = again (element, input) state is
-  picks_next state is (Some (Ends end)) = is
-
-  picks_stepped : (element : ℕ) (kind : Kind) (state : State) → state.picks ≡ picks → (after : Option (PacketState × Exit))
-      → LeavesPicks picks (option_and_then (goes_on chain element kind (run_from most chain)) (option_map (with_packet state) after))
-  picks_stepped element kind state is None = tt
-  picks_stepped element kind state is (Some after) = picks_next (record state { packet = after.0 }) is (next_after chain element kind after.1)
-
-  picks_behind : (port : ℕ × ℕ) (state : State) → state.picks ≡ picks → (found : Option Kind)
-      → LeavesPicks picks (option_and_then (λ kind. option_and_then (goes_on chain port.0 kind (run_from most chain)) (element_step kind port.1 state)) found)
-  picks_behind port state is None = tt
-  picks_behind port state is (Some kind) = picks_stepped port.0 kind state is (stateless_step kind state.packet)
-
-picks_along : (most : ℕ) (chain : ChainState) (picks : List ℕ) (port : ℕ × ℕ) (state : State) → state.picks ≡ picks → LeavesPicks picks (run_from most chain port state)
-unfolding run_from
-picks_along zero chain picks port state is = tt
-picks_along (suc most) chain picks port state is =
-    picks_behind chain most picks (λ port' state' is'. picks_along most chain picks port' state' is') port state is (slice_get chain.kinds port.0)
-
-picks_of_run : (chain : ChainState) (tables : TablesState) (packet : PacketState) (picks : List ℕ) → LeavesPicks picks (run_packet chain tables packet picks)
-unfolding run_packet
-picks_of_run chain tables packet picks = entered (entry_of chain packet.device)
-  where
-    entered : (found : Option ℕ) → LeavesPicks picks (option_and_then (λ entry. run_from (suc (length chain.wires)) chain (entry, 0) (record { packet = packet; tables = tables; picks = picks })) found)
-    entered None = tt
-    entered (Some entry) = picks_along (suc (length chain.wires)) chain picks (entry, 0) _ refl
-
-pub picks_left : (chain : ChainState) (tables : TablesState) (packet : PacketState) (picks : List ℕ) (run : Run) → run_packet chain tables packet picks ≡ Some run → length run.picks ≤ length picks
-picks_left chain tables packet picks run is =
-    let same : length run.picks ≡ length picks = ap length (subst (λ found. LeavesPicks picks found) is (picks_of_run chain tables packet picks)) in
-    omega (arith, same)
+      either : (answer : Answer Run) → IsThere answer → Keeps-run packet tables answer → IsThere (option_and_then result_ok answer)
+      either None there h = absurd (none-some there.0 there.1)
+      either (Some (Ok run)) there h = (run, refl)
+      either (Some (Err place)) there h = absurd (h stateless)

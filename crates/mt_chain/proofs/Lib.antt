@@ -4,6 +4,7 @@ mod StepsThere
 mod Kept
 mod Longest
 mod Outputs
+pub mod Rewritten
 pub mod Sequence
 mod Sizes
 mod Sound

@@ -3,7 +3,8 @@ use Rattle.std.proofs.Common.{◌≡◌, ◌∙◌, ap, refl, ℕ, List, [], ◌
 use Rattle.std.specs.Prelude.{Option, Some, None, option_map, option_and_then}
 use Rattle.mt_packet.specs.Packet.{PacketState}
 use Rattle.mt_elements.specs.ChainState.{ChainState}
-use Rattle.mt_chain.specs.Run.{TablesState, Run, run_packet}
+use Rattle.mt_rewriter.specs.Mappings.{TablesState}
+use Rattle.mt_chain.specs.Run.{Run, run_packet}
 use Rattle.mt_chain.specs.Sequence.{Runs, before, run_each}
 pub use Rattle.mt_chain.specs.Sequence.{behind}
 

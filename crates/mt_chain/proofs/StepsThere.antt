@@ -1,9 +1,8 @@
 -- An element that takes a packet has a step on it, and an output that may be open has a cause.
-use Rattle.std.proofs.Common.{◌≡◌, ◌∙◌, sym, ap, subst, refl, ◌⊎◌, inl, inr, ℕ, zero, suc, ◌+◌, ◌<◌, ◌≤◌, Bool, true, false, List, [], ◌∷◌, length, get_or, position, arith}
-use Rattle.std.specs.Prelude.{Option, Some, None, nat_le, ◌==◌, if◌then◌else◌, slice_get, option_map, option_and_then, ⊤}
-use Rattle.std.proofs.lemmas.Bool.{false≢true, cases_lt, le-leb}
+use Rattle.std.proofs.Common.{◌≡◌, sym, subst, refl, ◌⊎◌, inl, inr, ℕ, ◌<◌, ◌≤◌, Bool, true, false, List, [], length, position, arith}
+use Rattle.std.specs.Prelude.{Option, Some, None, nat_le, ◌==◌, if◌then◌else◌, ⊤}
+use Rattle.std.proofs.lemmas.Bool.{false≢true, le-leb}
 use Rattle.std.proofs.lemmas.List.Quantifiers.{position-Some}
-use Rattle.std.proofs.lemmas.Option.{slice_get_cases, slice_get_within, slice_get-get_or, none-some}
 use Rattle.mt_packet.specs.Flow.{packet_flow}
 use Rattle.mt_packet.specs.Ipv4.{is_valid_ipv4}
 use Rattle.mt_packet.specs.Packet.{PacketState, datagram_of, layer_below, layer_checked, with_field, packet_header}

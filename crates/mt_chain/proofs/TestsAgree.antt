@@ -1,6 +1,6 @@
 -- The tests that the code makes are those of the definitions.
 use Rattle.std.proofs.Common.{◌≡◌, refl, sym, ◌∙◌, ap, Bool, true, false, List, ℕ, arith}
-use Rattle.std.specs.Prelude.{◌↔◌, IsTrue, Some, None, if◌then◌else◌, is_some}
+use Rattle.std.specs.Prelude.{◌↔◌, IsTrue, IsSome, Option, Some, None, if◌then◌else◌, is_some}
 use Rattle.std.proofs.lemmas.Bool.Decides.{nat_tests}
 use Rattle.std.proofs.lemmas.Grind.{common_steps}
 use Rattle.std.proofs.lemmas.Bool.{false≢true}
@@ -81,3 +81,7 @@ flow_ports p flow is = by_case (has_ports (datagram_of p)) _ is
     by_case : (b : Bool) (x : Flow) → (if b then Some x else None) ≡ Some flow → b ≡ true
     by_case true x e = refl
     by_case false x e = absurd (false≢true (ap is_some e))
+
+pub some_flow_ports : (p : PacketState) (found : Option Flow) → found ≡ packet_flow p → IsSome found → has_ports (datagram_of p) ≡ true
+some_flow_ports p (Some flow) is some = flow_ports p flow (sym is)
+some_flow_ports p None is some = absurd (false≢true some)

@@ -1,78 +1,67 @@
 -- A packet's way, one element after the other.
-use Rattle.std.proofs.Common.{◌≡◌, ℕ, suc, ◌+◌, ◌-◌, ◌<◌, List, sym, ◌∙◌, ap}
-use Rattle.std.specs.Prelude.{Option, Some, None, slice_get, option_map, option_and_then}
-use Rattle.mt_packet.specs.Packet.{PacketState}
+use Rattle.std.proofs.Common.{◌≡◌, ℕ, ◌+◌, ◌-◌, ◌<◌, ◌≤◌, List, Ok, Err, sym, ◌∙◌, ap, arith}
+use Rattle.std.specs.Prelude.{Option, Some, None, slice_get, option_and_then, drop}
+use Rattle.mt_lists.proofs.Counts.{one_left}
 use Rattle.mt_kinds.specs.declared.kind.Kind.{Kind}
+use Rattle.mt_kinds.specs.declared.rewriter.Pool.{Pool}
+use Rattle.mt_kinds.specs.declared.rewriter.Template.{Template}
 use Rattle.mt_elements.specs.ChainState.{ChainState}
 use Rattle.mt_chain.specs.declared.step.Exit.{Exit}
 use Rattle.mt_chain.specs.declared.step.Ending.{Ending}
 use Rattle.mt_chain.specs.declared.walk.Next.{Next}
 use Rattle.mt_chain.specs.declared.walk.Next.TheVariants.{Goes, Ends}
-use Rattle.mt_chain.specs.Step.{stateless_step}
-use Rattle.mt_chain.specs.Run.{TablesState, State, Run, with_packet, element_step, next_after, follow, goes_on, run_from, fate_of}
-use Rattle.mt_lists.proofs.Counts.{one_left}
+use Rattle.mt_chain.specs.declared.walk.Stop.{Stop}
+use Rattle.mt_chain.specs.declared.walk.Stop.TheVariants.{NoWay, BadPick, NoMemory}
+use Rattle.mt_chain.specs.Run.{State, Run, Answer, element_step, next_after, follow, goes_on, at_element, run_from, fate_of}
+use Rattle.mt_chain.specs.Walking.{IsStop, IsGiven}
 
-one_step : (most : ℕ) (chain : ChainState) (port : ℕ × ℕ) (state : State) (kind : Kind) → slice_get chain.kinds port.0 ≡ Some kind
-    → run_from (suc most) chain port state ≡ option_and_then (goes_on chain port.0 kind (run_from most chain)) (element_step kind port.1 state)
-unfolding run_from
-one_step most chain port state kind is =
-    ap (option_and_then (λ k. option_and_then (goes_on chain port.0 k (run_from most chain)) (element_step k port.1 state))) is
+module _ (chain : ChainState) (picks : List ℕ) (all : Answer Run) (n i : ℕ) (port : ℕ × ℕ) (state : State) (so_far : all ≡ run_from (n - i) chain picks port state) where
+  abbrev rest : ℕ × ℕ → State → Answer Run
+  rest = run_from (n - (i + 1)) chain picks
 
-no_step : (most : ℕ) (chain : ChainState) (port : ℕ × ℕ) (state : State) → slice_get chain.kinds port.0 ≡ None → run_from (suc most) chain port state ≡ None
-unfolding run_from
-no_step most chain port state none =
-    ap (option_and_then (λ k. option_and_then (goes_on chain port.0 k (run_from most chain)) (element_step k port.1 state))) none
+  at_kind : i < n → (found : Option Kind) → slice_get chain.kinds port.0 ≡ found → all ≡ option_and_then (at_element chain picks port state rest) found
+  unfolding run_from
+  at_kind within found is =
+      so_far ∙ ap (λ m. run_from m chain picks port state) (one_left n i within) ∙ ap (option_and_then (at_element chain picks port state rest)) is
 
-module _ (tables : TablesState) (picks : List ℕ) where
-  -- a packet with what does not change on its way
-  abbrev pub at : PacketState → State
-  at packet = record { packet = packet; tables = tables; picks = picks }
+  -- there is no such element
+  pub nowhere : i < n → slice_get chain.kinds port.0 ≡ None → all ≡ None
+  nowhere within none = at_kind within None none
 
-  module _ (chain : ChainState) (all : Option Run) (n i : ℕ) (port : ℕ × ℕ) (packet : PacketState) (within : i < n) (so_far : all ≡ run_from (n - i) chain port (at packet)) where
-    here : (kind : Kind) (stepped : Option (PacketState × Exit)) → slice_get chain.kinds port.0 ≡ Some kind → stepped ≡ stateless_step kind packet
-        → all ≡ option_and_then (goes_on chain port.0 kind (run_from (n - (i + 1)) chain)) (option_map (with_packet (at packet)) stepped)
-    here kind stepped is stepped_is =
-        so_far
-        ∙ ap (λ m. run_from m chain port (at packet)) (one_left n i within)
-        ∙ one_step (n - (i + 1)) chain port (at packet) kind is
-        ∙ ap (λ s. option_and_then (goes_on chain port.0 kind (run_from (n - (i + 1)) chain)) (option_map (with_packet (at packet)) s)) (sym stepped_is)
+  -- no element is left for the way
+  pub used_up : n ≤ i → all ≡ None
+  unfolding run_from
+  used_up past = so_far ∙ ap (λ m. run_from m chain picks port state) (none_left n i past)
+    where
+      none_left : (n i : ℕ) → n ≤ i → n - i ≡ 0
+      none_left n i past = omega (arith, past)
 
-    -- the element does not take the packet
-    pub not_taken : (kind : Kind) (after : PacketState) (step : Option Exit) → slice_get chain.kinds port.0 ≡ Some kind → option_map (λ s. (after, s)) step ≡ stateless_step kind packet → step ≡ None → all ≡ None
-    not_taken kind after step is step_is none =
-        here kind (option_map (λ s. (after, s)) step) is step_is
-        ∙ ap (λ s. option_and_then (goes_on chain port.0 kind (run_from (n - (i + 1)) chain)) (option_map (with_packet (at packet)) (option_map (λ t. (after, t)) s))) none
+  module _ (within : i < n) (kind : Kind) (there : slice_get chain.kinds port.0 ≡ Some kind) (mappers : List (List Template)) (pools : List Pool) (given : IsGiven chain mappers pools) where
+    stepped : (answer : Answer (State × Exit)) → element_step mappers pools picks port kind state ≡ answer → all ≡ option_and_then (goes_on chain picks port.0 kind rest) answer
+    stepped answer is =
+        at_kind within (Some kind) there
+        ∙ ap (option_and_then (goes_on chain picks port.0 kind rest))
+        (ap (λ m. element_step m chain.pools picks port kind state) (sym given.mappers_are) ∙ ap (λ p. element_step mappers p picks port kind state) (sym given.pools_are) ∙ is)
+
+    -- the element does not take the packet, or its pick is wrong
+    pub stops : (stop : Stop) → IsStop (element_step mappers pools picks port kind state) stop → IsStop all stop
+    stops NoWay is = stepped None is
+    stops (BadPick place) is = stepped (Some (Err place)) is
+    stops NoMemory is = tt
 
     -- it takes it, and this is where it goes
-    taken : (kind : Kind) (after : PacketState) (result : Option Exit) (step : Exit) (next : Option Next) → slice_get chain.kinds port.0 ≡ Some kind → option_map (λ s. (after, s)) result ≡ stateless_step kind packet → result ≡ Some step → next ≡ next_after chain port.0 kind step
-        → all ≡ option_and_then (follow (run_from (n - (i + 1)) chain) (at after)) next
-    taken kind after result step next is step_is stepped next_is =
-        here kind (option_map (λ s. (after, s)) result) is step_is
-        ∙ ap (λ s. option_and_then (goes_on chain port.0 kind (run_from (n - (i + 1)) chain)) (option_map (with_packet (at packet)) (option_map (λ t. (after, t)) s))) stepped
-        ∙ ap (option_and_then (follow (run_from (n - (i + 1)) chain) (at after))) (sym next_is)
+    module _ (after : State) (exit : Exit) (taken : element_step mappers pools picks port kind state ≡ Some (Ok (after, exit))) (next : Option Next) (next_is : next ≡ next_after chain port.0 kind exit) where
+      goes : (other : Option Next) → next ≡ other → all ≡ option_and_then (follow picks rest after) other
+      goes other is = stepped (Some (Ok (after, exit))) taken ∙ ap (option_and_then (follow picks rest after)) (sym next_is ∙ is)
 
-    -- to an output that leads nowhere and has to
-    pub lost : (kind : Kind) (after : PacketState) (result : Option Exit) (step : Exit) (next : Option Next) → slice_get chain.kinds port.0 ≡ Some kind → option_map (λ s. (after, s)) result ≡ stateless_step kind packet → result ≡ Some step → next ≡ next_after chain port.0 kind step → next ≡ None → all ≡ None
-    lost kind after result step next is step_is stepped next_is none =
-        taken kind after result step next is step_is stepped next_is ∙ ap (option_and_then (follow (run_from (n - (i + 1)) chain) (at after))) none
+      -- to an output that leads nowhere and has to
+      pub lost : next ≡ None → all ≡ None
+      lost none = goes None none
 
-    -- on to another element
-    pub goes_to : (kind : Kind) (after : PacketState) (result : Option Exit) (step : Exit) (next : Option Next) (element input : ℕ) → slice_get chain.kinds port.0 ≡ Some kind → option_map (λ s. (after, s)) result ≡ stateless_step kind packet → result ≡ Some step → next ≡ next_after chain port.0 kind step → next ≡ Some (Goes element input)
-        → all ≡ run_from (n - (i + 1)) chain (element, input) (at after)
-    goes_to kind after result step next element input is step_is stepped next_is to =
-        taken kind after result step next is step_is stepped next_is ∙ ap (option_and_then (follow (run_from (n - (i + 1)) chain) (at after))) to
+      -- on to another element
+      pub goes_to : (element input : ℕ) → next ≡ Some (Goes element input) → all ≡ rest (element, input) after
+      goes_to element input is = goes (Some (Goes element input)) is
 
-    -- to its end
-    pub ends : (kind : Kind) (after : PacketState) (result : Option Exit) (step : Exit) (next : Option Next) (ending : Ending) → slice_get chain.kinds port.0 ≡ Some kind → option_map (λ s. (after, s)) result ≡ stateless_step kind packet → result ≡ Some step → next ≡ next_after chain port.0 kind step → next ≡ Some (Ends ending)
-        → all ≡ Some (record { fate = fate_of after ending; tables = tables; picks = picks })
-    ends kind after result step next ending is step_is stepped next_is to =
-        taken kind after result step next is step_is stepped next_is ∙ ap (option_and_then (follow (run_from (n - (i + 1)) chain) (at after))) to
-
-    -- there is no such element
-    pub nowhere : slice_get chain.kinds port.0 ≡ None → all ≡ None
-    nowhere none = so_far ∙ ap (λ m. run_from m chain port (at packet)) (one_left n i within) ∙ no_step (n - (i + 1)) chain port (at packet) none
-
--- no element is left for the way
-pub used_up : (chain : ChainState) (port : ℕ × ℕ) (state : State) (n : ℕ) → n ≡ 0 → run_from n chain port state ≡ None
-unfolding run_from
-used_up chain port state n none = ap (λ m. run_from m chain port state) none
+      -- to its end
+      pub ends : (ending : Ending) → next ≡ Some (Ends ending) → all ≡ Some (Ok (record { fate = fate_of after.packet ending; tables = after.tables; picks = drop after.used picks }))
+      ends ending is = goes (Some (Ends ending)) is

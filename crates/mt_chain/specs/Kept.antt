@@ -1,6 +1,7 @@
 -- What a packet keeps on its way: when and where it arrived, and that it never grows.
-use Rattle.std.specs.Prelude.{◌≡◌, ◌≤◌, ℕ, ◌+◌, length, if◌then◌else◌, ⊤}
+use Rattle.std.specs.Prelude.{◌≡◌, ◌≤◌, ℕ, ◌+◌, length, if◌then◌else◌, Contains, ⊤}
 use Rattle.mt_packet.specs.Packet.{PacketState, has_ethernet}
+use Rattle.mt_rewriter.specs.Mappings.{Mapping, TablesState}
 use Rattle.mt_chain.specs.declared.run.Fate.{Fate}
 use Rattle.mt_chain.specs.declared.run.Fate.TheVariants.{Sent, Dropped}
 
@@ -13,6 +14,10 @@ pub record IsKept (old new : PacketState) : Type 0 where
   pub device : new.device ≡ old.device
   pub number : new.number ≡ old.number
   pub size : size_of new ≤ size_of old
+
+-- no mapping has left
+abbrev pub Stays : TablesState → TablesState → Type 0
+Stays old new = (mapping : Mapping) → Contains old.mappings mapping → Contains new.mappings mapping
 
 -- what is sent has the packet's time, device and number of arrival, and has no more bytes
 abbrev pub ComesFrom : PacketState → Fate → Type 0

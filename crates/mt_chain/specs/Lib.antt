@@ -1,7 +1,9 @@
 pub mod Classifier
 pub mod Filter
 pub mod Kept
+pub mod Rewriting
 pub mod Route
 pub mod Run
 pub mod Sequence
 pub mod Step
+pub mod Walking

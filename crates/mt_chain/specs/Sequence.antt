@@ -3,17 +3,14 @@ use Rattle.std.specs.Prelude.{◌≡◌, ℕ, ◌==◌, if◌then◌else◌, Lis
 use Rattle.mt_packet.specs.Packet.{PacketState}
 use Rattle.mt_elements.specs.ChainState.{ChainState}
 use Rattle.mt_chain.specs.declared.run.Fate.{Fate}
-use Rattle.mt_chain.specs.Run.{TablesState, Run, run_packet}
+use Rattle.mt_rewriter.specs.Mappings.{TablesState, first_tables}
+use Rattle.mt_chain.specs.Run.{Run, run_packet}
 
 -- the fates of some packets in their order, and what their runs leave
 pub record Runs : Type 0 where
   pub fates : List Fate
   pub tables : TablesState
   pub picks : List ℕ
-
--- what a chain remembers before its first packet
-abbrev pub first_tables : ChainState → TablesState
-first_tables chain = record { turns = [] }
 
 abbrev pub before : Run → Runs → Runs
 before first more = record more { fates = first.fate ∷ more.fates }

@@ -6,13 +6,13 @@
 mod classifier;
 mod filter;
 pub mod laws;
+mod rewriting;
 mod route;
 mod run;
 mod step;
-mod tables;
 #[cfg(test)]
 mod tests;
 mod walk;
 
+pub use mt_rewriter::Tables;
 pub use run::{Fate, Ran, RunFault, run_one};
-pub use tables::Tables;

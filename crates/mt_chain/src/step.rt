@@ -84,7 +84,7 @@ fn act(kind: &Kind, packet: &mut Packet) -> Option<Exit>
 
 /// A packet at layer Ip was checked.
 #[tactic(auto, using(crate::proofs::Sound::ip_layer))]
-fn was_checked(_packet: &Packet)
+pub(crate) fn was_checked(_packet: &Packet)
     requires taken { is_ip _packet.now.layer ≡ true }
     requires sound { IsSound _packet.now }
     ensures layer { _packet.now.layer ≡ layer.Ip }
@@ -93,7 +93,7 @@ fn was_checked(_packet: &Packet)
 
 /// Sets a field and mends the checksums. How many writes a run makes is no part of its result, so their count
 /// is let go.
-fn set(packet: &mut Packet, field: Field, value: u64)
+pub(crate) fn set(packet: &mut Packet, field: Field, value: u64)
     requires { CanWrite packet.old field value }
     ensures set { packet.new ≡ with_field packet.old field value }
     ensures still_checked { IsChecked packet.old → IsChecked packet.new }
