@@ -17,16 +17,17 @@ use Rattle.mt_packet.specs.declared.frame.Stamped.{Stamped}
 use Rattle.mt_script.specs.Script.{commands_of}
 use Rattle.mt_script.specs.declared.command.Command.{Command}
 use Rattle.mt_script.specs.declared.fault.ScriptFault.{ScriptFault as ScriptTold}
-use Rattle.mt_command.specs.Parts.{RunView, BindingView, DeviceView, BoundView}
+use Rattle.mt_command.specs.Parts.{RunView, BoundView}
 use Rattle.mt_command.specs.Command.{IsCommand, IsFirstAtFault}
-use Rattle.mt_command.specs.Devices.{IsFirstUnfit, IsFirstUnbound, AreBound}
+use Rattle.mt_command.specs.Devices.{AreBound}
 use Rattle.metron.specs.Inputs.{Told, ReadsAs, IsChainRead, IsChainFault, IsScriptRead, ScriptFault, text_limit, devices_of, inputs_of, outputs_of, BeginWell, IsFirstRefused, CaptureFault}
 use Rattle.metron.specs.Serving.{Held, OutputFault, fault_of, IsEnd}
 use Rattle.metron.specs.Causes.{State, IsAtChain, IsAtScript, IsAtCaptures, IsUntouched, BindCause, IsRefusal, AllBegin, IsRunOf, IsRun}
 use Rattle.metron.specs.Causes.IsRefusal.{no_memory, no_command, chain_refused, not_bound, script_refused}
 use Rattle.metron.specs.Causes.IsRunOf.{capture_refused, ended, input_failed, broken_off}
 use Rattle.metron.specs.Causes.IsRun.{refused, ran}
-use Rattle.metron.specs.Due.{end_at, or_else, captures_due, OweAll, CommandsOwe, TextOwes, ScriptOwes, ChainOwes, ReadingOwes, IsOwed, IsInterruption, IsExact, IsComplete, NoneFailed, IsFinished, IsEarly}
+use Rattle.metron.specs.Laws.{OneAnswer}
+use Rattle.metron.specs.Due.{end_at, or_else, captures_due, OweAll, CommandsOwe, TextOwes, ScriptOwes, ChainOwes, ReadingOwes, ChainTextOwes, IsOwed, IsInterruption, IsExact, IsComplete, NoneFailed, IsFinished, IsEarly}
 use Rattle.metron.specs.declared.outcome.FileId.TheVariants as file
 use Rattle.metron.specs.declared.outcome.Fault.{Fault}
 use Rattle.metron.specs.declared.outcome.Fault.TheVariants.{Done, UsageWord, Unbound, Unbuilt, TooLong, Click, Script, Capture as CaptureTold, Read, Write, Memory, Frames}
@@ -143,26 +144,20 @@ module _ (held : Held) (inputs : List (List ℕ)) where
 
 -- ---- what chains owe
 
--- Words give one command or are first at fault at one word; bindings give each device its files, or one is the first at
--- fault, or a device the lowest without a file.
-pub record OneAnswer : Type 0 where
-  pub first : (words : List (List ℕ)) (n m : ℕ) → IsFirstAtFault words n → IsFirstAtFault words m → n ≡ m
-  pub command : (words : List (List ℕ)) (c d : RunView) → IsCommand words c → IsCommand words d → c ≡ d
-  pub not_both : (words : List (List ℕ)) (n : ℕ) (c : RunView) → IsFirstAtFault words n → IsCommand words c → ⊥
-  pub unfit : (bindings : List BindingView) (devices : List DeviceView) (n m : ℕ) → IsFirstUnfit bindings devices n → IsFirstUnfit bindings devices m → n ≡ m
-  pub unbound : (bindings : List BindingView) (devices : List DeviceView) (n m : ℕ) → IsFirstUnbound bindings devices n → IsFirstUnbound bindings devices m → n ≡ m
-  pub bound : (bindings : List BindingView) (devices : List DeviceView) (b c : List BoundView) → AreBound bindings devices b → AreBound bindings devices c → b ≡ c
-  pub not_unfit : (bindings : List BindingView) (devices : List DeviceView) (n : ℕ) (b : List BoundView) → IsFirstUnfit bindings devices n → AreBound bindings devices b → ⊥
-  pub not_unbound : (bindings : List BindingView) (devices : List DeviceView) (n : ℕ) (b : List BoundView) → IsFirstUnbound bindings devices n → AreBound bindings devices b → ⊥
-  pub not_unfit_unbound : (bindings : List BindingView) (devices : List DeviceView) (n m : ℕ) → IsFirstUnfit bindings devices n → IsFirstUnbound bindings devices m → ⊥
-
--- a chain is owed as what its text is read as
+-- what a text owes, where it is told
 abbrev Owes : Told → RunView → Held → Fault → Type 0
-Owes told c held f = IfSome told (λ text. (reading : Result ChainState Fault) × ReadsAs text reading × ReadingOwes reading c held f)
+Owes told c held f = IfSome told (λ text. ChainTextOwes text c held f)
 
-chain_owes : (c : RunView) (held : Held) (f : Fault) (chain : ChainState) (told : Told) → IsChainRead told chain → ChainOwes chain c held f → Owes told c held f
-chain_owes c held f chain None read owes = tt
-chain_owes c held f chain (Some text) read owes = (Ok chain, (read.1, read.0), owes)
+-- what one reading owes, every reading does
+reading_owes : OneAnswer → (c : RunView) (held : Held) (f : Fault) (text : List ℕ) (reading : Result ChainState Fault) → ReadsAs text reading → ReadingOwes reading c held f → ChainTextOwes text c held f
+reading_owes laws c held f text reading reads owes = record {
+  is_read = (reading, reads);
+  owes = λ other so. subst (λ (r : Result ChainState Fault). ReadingOwes r c held f) (laws.reading text reading other reads so) owes;
+}
+
+chain_owes : OneAnswer → (c : RunView) (held : Held) (f : Fault) (chain : ChainState) (told : Told) → IsChainRead told chain → ChainOwes chain c held f → Owes told c held f
+chain_owes laws c held f chain None read owes = tt
+chain_owes laws c held f chain (Some text) read owes = reading_owes laws c held f text (Ok chain) (read.1, read.0) owes
 
 module _ (laws : OneAnswer) (c : RunView) (chain : ChainState) (held : Held) where
   -- its devices have these files
@@ -187,18 +182,18 @@ module _ (laws : OneAnswer) (c : RunView) (chain : ChainState) (held : Held) whe
   unbound_owes J memory Memory why = inr memory
   unbound_owes J memory f why = absurd why
 
-chain_fault : (c : RunView) (held : Held) (J : Fault → Type 0) → J Memory → (told : Told) (before after : ℕ) (f : Fault) → (Rose before after → J (Read file.Chain)) → IsChainFault told before after f → Owes told c held f ⊎ J f
-chain_fault c held J memory None before after (TooLong file.Chain) read why = inl tt
-chain_fault c held J memory None before after (Click told) read why = inl tt
-chain_fault c held J memory None before after (fault.Chain told) read why = inl tt
-chain_fault c held J memory None before after (Unbuilt file.Chain) read why = inl tt
-chain_fault c held J memory (Some text) before after (TooLong file.Chain) read why = inl (Err (TooLong file.Chain), why, refl)
-chain_fault c held J memory (Some text) before after (Click told) read why = inl (Err (Click told), why, refl)
-chain_fault c held J memory (Some text) before after (fault.Chain told) read why = inl (Err (fault.Chain told), why, refl)
-chain_fault c held J memory (Some text) before after (Unbuilt file.Chain) read why = inl (Err (Unbuilt file.Chain), why, refl)
-chain_fault c held J memory told before after (Read file.Chain) read why = inr (read why)
-chain_fault c held J memory told before after Memory read why = inr memory
-chain_fault c held J memory told before after f read why = absurd why
+chain_fault : OneAnswer → (c : RunView) (held : Held) (J : Fault → Type 0) → J Memory → (told : Told) (before after : ℕ) (f : Fault) → (Rose before after → J (Read file.Chain)) → IsChainFault told before after f → Owes told c held f ⊎ J f
+chain_fault laws c held J memory None before after (TooLong file.Chain) read why = inl tt
+chain_fault laws c held J memory None before after (Click told) read why = inl tt
+chain_fault laws c held J memory None before after (fault.Chain told) read why = inl tt
+chain_fault laws c held J memory None before after (Unbuilt file.Chain) read why = inl tt
+chain_fault laws c held J memory (Some text) before after (TooLong file.Chain) read why = inl (reading_owes laws c held (TooLong file.Chain) text (Err (TooLong file.Chain)) why refl)
+chain_fault laws c held J memory (Some text) before after (Click told) read why = inl (reading_owes laws c held (Click told) text (Err (Click told)) why refl)
+chain_fault laws c held J memory (Some text) before after (fault.Chain told) read why = inl (reading_owes laws c held (fault.Chain told) text (Err (fault.Chain told)) why refl)
+chain_fault laws c held J memory (Some text) before after (Unbuilt file.Chain) read why = inl (reading_owes laws c held (Unbuilt file.Chain) text (Err (Unbuilt file.Chain)) why refl)
+chain_fault laws c held J memory told before after (Read file.Chain) read why = inr (read why)
+chain_fault laws c held J memory told before after Memory read why = inr memory
+chain_fault laws c held J memory told before after f read why = absurd why
 
 -- ---- whole runs
 
@@ -214,7 +209,7 @@ module _ (laws : OneAnswer) (words : List (List ℕ)) (old new : State) (c : Run
 
   -- from a chain that was read
   read_so : (f : Fault) (chain : ChainState) → IsAtChain words old.held c chain → ChainOwes chain c old.held f ⊎ IsInterruption words c old new f → Or f
-  read_so f chain stands h = either _ _ _ (chain_owes c old.held f chain (old.held c.chain) stands.chain_is) h
+  read_so f chain stands h = either _ _ _ (chain_owes laws c old.held f chain (old.held c.chain) stands.chain_is) h
 
   bound_so : (f : Fault) (chain : ChainState) (bound : List BoundView) → IsAtScript words old.held c chain bound
       → IfSome (old.held c.script) (λ text. ScriptOwes text old.held (inputs_of chain bound) f) ⊎ IsInterruption words c old new f → Or f
@@ -250,7 +245,7 @@ module _ (laws : OneAnswer) (words : List (List ℕ)) (old new : State) (c : Run
   refusal_so f (no_memory memory) = inr (subst (λ g. IsInterruption words c old new g) (sym memory) tt)
   refusal_so f (no_command n first usage) = absurd (laws.not_both words n c first is)
   refusal_so f (chain_refused d other why) =
-      chain_fault c old.held (λ g. IsInterruption words c old new g) tt (old.held c.chain) (old.failed_reads c.chain) (new.failed_reads c.chain) f (λ rose. rose)
+      chain_fault laws c old.held (λ g. IsInterruption words c old new g) tt (old.held c.chain) (old.failed_reads c.chain) (new.failed_reads c.chain) f (λ rose. rose)
       (subst (λ (e : RunView). IsChainFault (old.held e.chain) (old.failed_reads e.chain) (new.failed_reads e.chain) f) (same_command d other) why)
   refusal_so f (not_bound d chain stands why) =
       let same = same_command d stands.words_are in

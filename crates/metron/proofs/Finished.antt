@@ -8,6 +8,7 @@ use Rattle.mt_command.specs.Parts.{RunView}
 use Rattle.metron.specs.Inputs.{Told}
 use Rattle.metron.specs.Serving.{Held, Outputs}
 use Rattle.metron.specs.Causes.{State, IsUntouched, IsRun}
+use Rattle.metron.specs.Laws.{OneAnswer}
 use Rattle.metron.specs.Due.{IsInterruption, IsExact, IsComplete, NoneFailed, IsFinished, IsEarly}
 use Rattle.metron.specs.Finish.{AreOutputs, FinishFault, UnwrittenCause, NoneFell, IsServed}
 use Rattle.metron.specs.Finish.IsServed.{all_written, some_pending}
@@ -16,7 +17,6 @@ use Rattle.metron.specs.declared.outcome.Fault.{Fault}
 use Rattle.metron.specs.declared.outcome.Fault.TheVariants.{Done, Write, Memory}
 use Rattle.metron.proofs.Stages.{later}
 use Rattle.metron.proofs.Exact as exactly
-use Rattle.metron.proofs.Exact.{OneAnswer}
 
 -- ---- bytes that are still pending
 
@@ -49,11 +49,13 @@ finish_fault words old new c Memory outputs unwritten are rose why = tt
 finish_fault words old new c fault outputs unwritten are rose why = absurd why
 
 -- what a failed finish says of the counts, from before the run on
-pub rose_between : (first : Option (List ℕ)) (old begun middle last new : List ℕ → ℕ) → IsSame old begun → NeverFell begun middle → IsSame last new
+pub rose_since : (first : Option (List ℕ)) (old middle last new : List ℕ → ℕ) → NeverFell old middle → IsSame last new
     → IsSomeAnd first (λ name. Rose (middle name) (last name)) → IsSomeAnd first (λ name. Rose (old name) (new name))
-rose_between None old begun middle last new same kept end h = h
-rose_between (Some name) old begun middle last new same kept end h =
-    subst (λ n. Rose n (new name)) (same name) (then_rose (begun name) (middle name) (new name) (kept name) (subst (λ n. Rose (middle name) n) (sym (end name)) h))
+rose_since None old middle last new kept end h = h
+rose_since (Some name) old middle last new kept end h = then_rose (old name) (middle name) (new name) (kept name) (subst (λ n. Rose (middle name) n) (sym (end name)) h)
+
+pub same_then_fell : (old begun new : List ℕ → ℕ) → IsSame old begun → NeverFell begun new → NeverFell old new
+same_then_fell old begun new same kept name = subst (λ n. n ≤ new name) (same name) (kept name)
 
 pub fell_then_same : (old middle new : List ℕ → ℕ) → NeverFell old middle → IsSame middle new → NeverFell old new
 fell_then_same old middle new kept same name = subst (λ n. old name ≤ n) (sym (same name)) (kept name)

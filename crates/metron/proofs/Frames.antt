@@ -15,8 +15,8 @@ use Rattle.mt_pcap.specs.Merged.{HasBroken, HasMerged}
 use Rattle.mt_pcap.specs.MergedLaws.{MergesWhole, MergesFull, MergesSoFar, MergesBroken, FailsToRead}
 use Rattle.mt_pcap.specs.Sources.{Source, MergeState, names_of, all_left, IsSameBeside, EndsSo, GivesSo, HasFailed}
 use Rattle.mt_elements.specs.ChainState.{ChainState}
-use Rattle.mt_chain.specs.Run.{TablesState}
-use Rattle.mt_chain.specs.Sequence.{OneBehind, first_tables}
+use Rattle.mt_rewriter.specs.Mappings.{TablesState, first_tables}
+use Rattle.mt_chain.specs.Sequence.{OneBehind}
 use Rattle.metron.specs.Fates.{packet_of, sent_text}
 use Rattle.metron.specs.Serving.{Held, Outputs, AllGain, AllGainFront, OutputFault, HasInputRisen, AreFirst, HasServed, HasServedOne, HasNotServedOne, MergeCause, IsServing}
 use Rattle.metron.specs.Serving.IsServing.{all_served, input_failed, broken_off}

@@ -6,6 +6,7 @@ mod Files
 mod Begun
 mod Passes
 mod Stages
+mod Readings
 mod Exact
 mod Finished
 mod Commands

@@ -6,8 +6,11 @@ use Rattle.mt_io.specs.Files.{IsSame}
 use Rattle.mt_packet.specs.Packet.{PacketState}
 use Rattle.mt_packet.specs.declared.frame.Stamped.{Stamped}
 use Rattle.mt_elements.specs.ChainState.{ChainState}
-use Rattle.mt_chain.specs.Run.{TablesState, Run, run_packet}
-use Rattle.mt_chain.specs.Sequence.{Runs, OneBehind, behind, first_tables, run_each, run_all, all_taken}
+use Rattle.mt_rewriter.specs.Mappings.{TablesState, first_tables}
+use Rattle.std.specs.Result.{result_ok}
+use Rattle.std.proofs.lemmas.Option.{none-some}
+use Rattle.mt_chain.specs.Run.{Run, IsThere, run_answer, run_packet}
+use Rattle.mt_chain.specs.Sequence.{Runs, OneBehind, behind, run_each, run_all, all_taken}
 use Rattle.mt_chain.specs.declared.run.Fate.{Fate}
 use Rattle.metron.specs.Fates.{packet_of, packets_of, fate_text, sent_text}
 use Rattle.metron.specs.Order.{numbers}
@@ -137,3 +140,8 @@ stops (Err why) chain outputs tables tables' packet fate used number old new ord
         written = wrote;
       },
     )
+
+-- a packet that has a run has no pick that is wrong
+pub never_wrong : (chain : ChainState) (tables : TablesState) (packet : PacketState) (picks : List ℕ) (place : ℕ) → IsThere (run_packet chain tables packet picks) → run_answer chain tables packet picks ≡ Some (Err place) → ⊥
+unfolding run_packet
+never_wrong chain tables packet picks place there wrong = none-some there.0 (sym (ap (option_and_then result_ok) wrong) ∙ there.1)

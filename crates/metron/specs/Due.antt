@@ -73,9 +73,14 @@ abbrev pub ReadingOwes : Result ChainState Fault → RunView → Held → Fault 
 ReadingOwes (Ok chain) command held fault = ChainOwes chain command held fault
 ReadingOwes (Err due) command held fault = fault ≡ due
 
+-- A text owes a fault: it has a reading, and every reading of it owes that fault.
+pub record ChainTextOwes (text : List ℕ) (command : RunView) (held : Held) (fault : Fault) : Type 0 where
+  pub is_read : (reading : Result ChainState Fault) × ReadsAs text reading
+  pub owes : (reading : Result ChainState Fault) → ReadsAs text reading → ReadingOwes reading command held fault
+
 -- A fault that a command owes, by what its files hold; nothing is said where that is not told.
 abbrev pub IsOwed : RunView → Held → Fault → Type 0
-IsOwed command held fault = IfSome (held command.chain) (λ text. (reading : Result ChainState Fault) × ReadsAs text reading × ReadingOwes reading command held fault)
+IsOwed command held fault = IfSome (held command.chain) (λ text. ChainTextOwes text command held fault)
 
 -- ---- what may come in its place
 

@@ -4,5 +4,6 @@ pub mod Fates
 pub mod Finish
 pub mod Inputs
 pub mod Serving
+pub mod Laws
 pub mod Causes
 pub mod Due

@@ -12,7 +12,8 @@ use Rattle.mt_pcap.specs.Merge.{MergedEnd, merge_of}
 use Rattle.mt_pcap.specs.Merged.{IsWholeMerge, IsBrokenMerge}
 use Rattle.mt_pcap.specs.Opened.{captures_in}
 use Rattle.mt_elements.specs.ChainState.{ChainState}
-use Rattle.mt_chain.specs.Run.{TablesState, run_packet}
+use Rattle.mt_rewriter.specs.Mappings.{TablesState}
+use Rattle.mt_chain.specs.Run.{run_packet}
 use Rattle.mt_chain.specs.Sequence.{run_all}
 use Rattle.mt_chain.specs.declared.run.Fate.{Fate}
 use Rattle.mt_chain.specs.declared.run.Fate.TheVariants.{Sent, Dropped}

@@ -5,6 +5,7 @@ mod command;
 mod devices;
 mod ends;
 mod inputs;
+mod laws;
 mod outcome;
 mod run;
 mod serve;

@@ -1,19 +1,22 @@
 //! The top call.
-ghost use Rattle.std.specs.Prelude.{◌≡◌, ◌<◌, ◌≤◌, ◌^◌, [], length, map, option_map, IfSome, Some};
+ghost use Rattle.std.specs.Prelude.{◌≡◌, ◌<◌, ◌≤◌, ◌^◌, ℕ, List, [], length, map, option_map, IfSome, Some};
 ghost use Rattle.std.specs.Bool.{OnTrue};
 ghost use Rattle.std.specs.String.{string_bytes};
-ghost use Rattle.mt_command.specs.Parts.{bound_view};
+ghost use Rattle.mt_io.specs.Files.{NeverFell};
+ghost use Rattle.mt_command.specs.Parts.{RunView, bound_view};
+ghost use Rattle.mt_command.specs.Command.{IsCommand};
 ghost use Rattle.metron.specs.Outcome.{status_of, order_of, picks_of};
-ghost use Rattle.metron.specs.Causes.{state_of, IsUntouched, IsRun};
-ghost use Rattle.metron.specs.Finish.{IsServed, UnwrittenCause};
+ghost use Rattle.metron.specs.Causes.{State, state_of, IsUntouched, IsRun};
+ghost use Rattle.metron.specs.Finish.{AreOutputs, IsServed, UnwrittenCause};
 ghost use Rattle.metron.specs.Inputs.{outputs_of};
 ghost use Rattle.metron.specs.Serving.{IsFile};
 ghost use Rattle.metron.specs.Due.{IsExact, IsComplete, NoneFailed, IsFinished, IsEarly};
 ghost use Rattle.metron.specs.declared.outcome.Fault.{Fault};
 
-use crate::command::run_command;
+use crate::command::{Ended, run_command};
+use crate::laws::one_answer_of_runs;
 use crate::{Fault, FileId, Outcome};
-use mt_command::laws::{files_are_apart, one_answer_of_bindings, one_answer_of_words};
+use mt_command::laws::files_are_apart;
 use mt_command::{Bound, WordsFault, read};
 use mt_io::{Buffered, Files};
 use std::alloc::Global;
@@ -52,8 +55,7 @@ pub fn metron<F: Files>(alloc: Global, words: &[String], files: &mut F) -> Outco
         (state_of F.held F.written F.read_faults F.write_faults files.new)
         → IsComplete (map string_bytes words.now) (F.held files.old) result.fault }
 {
-    one_answer_of_words();
-    one_answer_of_bindings();
+    one_answer_of_runs();
     let mut order = Vec::new(alloc);
     let fault = run(alloc, words, files, &mut order);
     Outcome::new(alloc, fault, order)
@@ -87,8 +89,7 @@ pub fn serve_command<F: Files + Drop>(alloc: Global, words: &[String], files: F)
         (state_of F.held F.written F.read_faults F.write_faults result.1)
         → IsComplete (map string_bytes words.now) (F.held files) result.0.fault }
 {
-    one_answer_of_words();
-    one_answer_of_bindings();
+    one_answer_of_runs();
     let mut order = Vec::new(alloc);
     let (fault, files) = run_buffered(alloc, words, files, &mut order);
     (Outcome::new(alloc, fault, order), files)
@@ -131,6 +132,20 @@ fn run_buffered<F: Files + Drop>(
     };
     let mut buffered = Buffered::new(alloc, files);
     let ended = run_command(alloc, &command, &mut buffered, order);
+    finish_run(&ended, buffered)
+}
+
+/// Has all written that is pending when a run has ended.
+fn finish_run<F: Files + Drop>(ended: &Ended<'_>, mut buffered: Buffered<F>) -> (Fault, F)
+    requires { length ended.now.bound.items ≤ 32 }
+    ensures { (words : List (List ℕ)) (command : RunView) (begun : State) (order : List ℕ) → IsCommand words command
+        → IsRun words begun
+        (state_of ⟦<Buffered<F> as Files>⟧.held ⟦<Buffered<F> as Files>⟧.written ⟦<Buffered<F> as Files>⟧.read_faults ⟦<Buffered<F> as Files>⟧.write_faults buffered)
+        order [] ended.now.fault
+        → AreOutputs words begun.held command (outputs_of (map bound_view ended.now.bound.items))
+        → NeverFell begun.failed_writes (⟦<Buffered<F> as Files>⟧.write_faults buffered)
+        → IsServed words begun (state_of F.held F.written F.read_faults F.write_faults result.1) order [] result.0 }
+{
     match buffered.finish() {
         Ok(()) => (ended.fault, buffered.into_inner()),
         Err(_) => {

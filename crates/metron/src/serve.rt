@@ -5,6 +5,7 @@ ghost use Rattle.mt_packet.specs.declared.layer.Layer.TheVariants as layer;
 ghost use Rattle.mt_pcap.specs.Merged.{HasMerged};
 ghost use Rattle.mt_pcap.specs.Sources.{IsSameBeside, names_of};
 ghost use Rattle.mt_elements.specs.ChainState.{entry_of};
+ghost use Rattle.mt_rewriter.specs.Kept.{AreTables};
 ghost use Rattle.mt_chain.specs.Run.{IsStateless, IsThere};
 ghost use Rattle.mt_chain.specs.declared.run.Fate.TheVariants as fates;
 ghost use Rattle.metron.specs.Fates.{fate_text};
@@ -12,7 +13,7 @@ ghost use Rattle.metron.specs.Serving.{Held, AreFilesApart, AllGain, AllGainFron
 
 use crate::{Fault, FileId};
 use mt_chain::laws::{devices_have_entries, one_packet_behind_others};
-use mt_chain::{Fate, Tables, run_one};
+use mt_chain::{Fate, RunFault, Tables, run_one};
 use mt_elements::Chain;
 use mt_io::Files;
 use mt_packet::{Packet, Stamped};
@@ -66,6 +67,7 @@ pub(crate) fn serve<F: Files>(
         };
         let number = frame.number;
         match serve_one(
+            alloc,
             files,
             chain,
             &mut tables,
@@ -98,6 +100,7 @@ fn merge_fault(fault: MergeFault) -> Fault
 
 /// Runs one packet through the chain, puts its number behind `order`, and writes what it sends.
 fn serve_one<F: Files>(
+    alloc: Global,
     files: &mut F,
     chain: &Chain,
     tables: &mut Tables,
@@ -109,6 +112,7 @@ fn serve_one<F: Files>(
     requires arrived { packet.layer ≡ layer.Frame }
     requires known { IsThere (entry_of chain.now packet.device) }
     requires stateless { IsStateless chain.now }
+    requires tables { AreTables chain.now tables.old }
     requires seconds_fit { packet.stamp / 1000000000 < 2 ^ 32 }
     requires length { length packet.bytes ≤ 262144 }
     requires apart { AreFilesApart writers.old }
@@ -118,15 +122,17 @@ fn serve_one<F: Files>(
         (F.written files.old) (F.written files.new) order.old.items order.new.items) }
     ensures cause { IfErr result (OutputFault writers.old (F.write_faults files.old) (F.write_faults files.new)) }
     ensures names { writers.new ≡ writers.old }
+    ensures tables { AreTables chain.now tables.new }
 
     ensures other_written { IsSameElsewhere writers.old (F.written files.old) (F.written files.new) }
     ensures held { IsSame (F.held files.old) (F.held files.new) }
     ensures read_faults { NeverFell (F.read_faults files.old) (F.read_faults files.new) }
     ensures write_faults { NeverFell (F.write_faults files.old) (F.write_faults files.new) }
 {
-    let ran = match run_one(chain, tables, packet, &[]) {
+    let ran = match run_one(alloc, chain, tables, packet, &[]) {
         Ok(ran) => ran,
-        Err(_) => return Err(Fault::Memory),
+        Err(RunFault::NoMemory) => return Err(Fault::Memory),
+        Err(RunFault::BadPick(_)) => unreachable!(),
     };
     match order.push(number) {
         Ok(()) => {}

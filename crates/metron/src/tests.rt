@@ -4,6 +4,7 @@ mod failing;
 mod frames;
 mod lines;
 mod refused;
+mod rewriters;
 
 use crate::{Fault, Outcome, metron};
 use mt_io::MemoryFiles;

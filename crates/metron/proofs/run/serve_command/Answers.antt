@@ -3,7 +3,6 @@ use Rattle.std.specs.String.{string_bytes}
 use Rattle.metron.specs.Causes.{State, state_of}
 use Rattle.metron.specs.Finish.{IsServed}
 use Rattle.metron.specs.Outcome.{order_of, picks_of}
-use Rattle.metron.proofs.Exact.{OneAnswer}
 use Rattle.metron.proofs.Finished.{exact, complete, finished, early, moved}
 use Rattle.metron.proofs.run.serve_command.Goals as goal
 
@@ -37,18 +36,7 @@ returns-clause-exact g c =
     let old : State = state_of g.F.Files.held g.F.Files.written g.F.Files.read_faults g.F.Files.write_faults c.args.files in
     let new : State = state_of g.F.Files.held g.F.Files.written g.F.Files.read_faults g.F.Files.write_faults c.run_buffered-fault.result.1 in
     let ran : IsServed words old new (order_of c.new.result) (picks_of c.new.result) c.new.result.fault = moved words old new _ _ _ _ _ _ c.new.ensures.fault c.new.ensures.order c.new.ensures.picks c.run_buffered-fault.ensures in
-    let laws : OneAnswer = record {
-      first = c.one_answer_of_words.ensures.fault;
-      command = c.one_answer_of_words.ensures.command;
-      not_both = λ words n run is has. c.one_answer_of_words.ensures.either words run n has is;
-      unfit = c.one_answer_of_bindings.ensures.unfit;
-      unbound = c.one_answer_of_bindings.ensures.unbound;
-      bound = c.one_answer_of_bindings.ensures.bound;
-      not_unfit = λ bindings devices n bound is are. c.one_answer_of_bindings.ensures.bound_or_unfit bindings devices bound n are is;
-      not_unbound = λ bindings devices n bound is are. c.one_answer_of_bindings.ensures.bound_or_unbound bindings devices bound n are is;
-      not_unfit_unbound = c.one_answer_of_bindings.ensures.unfit_or_unbound;
-    } in
-    exact laws words old new _ _ _ ran
+    exact c.one_answer_of_runs.ensures words old new _ _ _ ran
 
 pub returns-clause-complete : goal.returns-clause-complete
 returns-clause-complete g c =
@@ -56,15 +44,4 @@ returns-clause-complete g c =
     let old : State = state_of g.F.Files.held g.F.Files.written g.F.Files.read_faults g.F.Files.write_faults c.args.files in
     let new : State = state_of g.F.Files.held g.F.Files.written g.F.Files.read_faults g.F.Files.write_faults c.run_buffered-fault.result.1 in
     let ran : IsServed words old new (order_of c.new.result) (picks_of c.new.result) c.new.result.fault = moved words old new _ _ _ _ _ _ c.new.ensures.fault c.new.ensures.order c.new.ensures.picks c.run_buffered-fault.ensures in
-    let laws : OneAnswer = record {
-      first = c.one_answer_of_words.ensures.fault;
-      command = c.one_answer_of_words.ensures.command;
-      not_both = λ words n run is has. c.one_answer_of_words.ensures.either words run n has is;
-      unfit = c.one_answer_of_bindings.ensures.unfit;
-      unbound = c.one_answer_of_bindings.ensures.unbound;
-      bound = c.one_answer_of_bindings.ensures.bound;
-      not_unfit = λ bindings devices n bound is are. c.one_answer_of_bindings.ensures.bound_or_unfit bindings devices bound n are is;
-      not_unbound = λ bindings devices n bound is are. c.one_answer_of_bindings.ensures.bound_or_unbound bindings devices bound n are is;
-      not_unfit_unbound = c.one_answer_of_bindings.ensures.unfit_or_unbound;
-    } in
-    complete laws words old new _ _ _ ran
+    complete c.one_answer_of_runs.ensures words old new _ _ _ ran

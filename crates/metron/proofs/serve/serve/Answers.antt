@@ -14,10 +14,11 @@ pub returns-in-Err-clause-serving : goal.returns-in-Err-clause-serving
 returns-in-Err-clause-serving g c = λ names first merged.
     ends_at_once c.args.chain.now c.args.writers.now names first c.merges_all.ensures.so_far _ _ c.args.merge.now _ _ _ _ _ _ c.args.order.now.items merged c.requires.none_served (λ name. refl)
 
-pub loop-merge-init : goal.loop-merge-init
-loop-merge-init g c = record {
-  way = λ names first merged. starts c.args.chain.now c.args.writers.now names first _ c.args.merge.now c.in-Ok.tables _ _ c.args.order.now.items merged c.in-Ok.ensures c.requires.none_served (λ name. refl);
+pub loop-alloc-init : goal.loop-alloc-init
+loop-alloc-init g c = record {
+  way = λ names first merged. starts c.args.chain.now c.args.writers.now names first _ c.args.merge.now c.in-Ok.tables _ _ c.args.order.now.items merged c.in-Ok.ensures.first c.requires.none_served (λ name. refl);
   few = omega (arith, c.requires.begins);
+  tables = c.in-Ok.ensures.kept;
   sources = refl;
   writers = refl;
   other_held = λ other apart. refl;
@@ -28,46 +29,47 @@ loop-merge-init g c = record {
 
 pub returns-in-Ok-None-clause-serving : goal.returns-in-Ok-None-clause-serving
 returns-in-Ok-None-clause-serving g c = λ names first merged.
-    ends_done c.args.chain.now c.args.writers.now names first (g.F.Files.held c.loop-merge.files) c.loop-merge.merge c.loop-merge.tables _ (g.F.Files.written c.next.new.files) c.loop-merge.order.items
-    (still c.args.chain.now c.args.writers.now names first (g.F.Files.held c.loop-merge.files) c.loop-merge.merge c.loop-merge.tables _ (g.F.Files.written c.loop-merge.files) (g.F.Files.written c.next.new.files) c.loop-merge.order.items
-    c.next.ensures.written (c.loop-merge.invariant.way names first merged))
-    _ _ (g.F.Files.read_faults c.loop-merge.files) _ _ _ c.merges_all.ensures.whole (c.in-Ok-None.ensures.ends c.in-Ok-None.field-0-is)
+    ends_done c.args.chain.now c.args.writers.now names first (g.F.Files.held c.loop-alloc.files) c.loop-alloc.merge c.loop-alloc.tables _ (g.F.Files.written c.next.new.files) c.loop-alloc.order.items
+    (still c.args.chain.now c.args.writers.now names first (g.F.Files.held c.loop-alloc.files) c.loop-alloc.merge c.loop-alloc.tables _ (g.F.Files.written c.loop-alloc.files) (g.F.Files.written c.next.new.files) c.loop-alloc.order.items
+    c.next.ensures.written (c.loop-alloc.invariant.way names first merged))
+    _ _ (g.F.Files.read_faults c.loop-alloc.files) _ _ _ c.merges_all.ensures.whole (c.in-Ok-None.ensures.ends c.in-Ok-None.field-0-is)
 
 pub returns-in-Err-next-clause-serving : goal.returns-in-Err-next-clause-serving
 returns-in-Err-next-clause-serving g c = λ names first merged.
-    let way = c.loop-merge.invariant.way names first merged in
-    ends_fault c.args.chain.now c.args.writers.now names first (g.F.Files.held c.loop-merge.files) c.loop-merge.merge c.loop-merge.tables _ (g.F.Files.written c.next.new.files) c.loop-merge.order.items
-    (still c.args.chain.now c.args.writers.now names first (g.F.Files.held c.loop-merge.files) c.loop-merge.merge c.loop-merge.tables _ (g.F.Files.written c.loop-merge.files) (g.F.Files.written c.next.new.files) c.loop-merge.order.items
+    let way = c.loop-alloc.invariant.way names first merged in
+    ends_fault c.args.chain.now c.args.writers.now names first (g.F.Files.held c.loop-alloc.files) c.loop-alloc.merge c.loop-alloc.tables _ (g.F.Files.written c.next.new.files) c.loop-alloc.order.items
+    (still c.args.chain.now c.args.writers.now names first (g.F.Files.held c.loop-alloc.files) c.loop-alloc.merge c.loop-alloc.tables _ (g.F.Files.written c.loop-alloc.files) (g.F.Files.written c.next.new.files) c.loop-alloc.order.items
     c.next.ensures.written way)
-    _ _ (g.F.Files.read_faults c.loop-merge.files) _ _ _ c.merges_all.ensures.whole c.merges_all.ensures.so_far c.merges_all.ensures.broken c.merges_all.ensures.fails c.in-Err-next.fault.device c.in-Err-next.fault.fault
-    c.merge_fault.result c.merge_fault.ensures c.in-Err-next.ensures.fault (c.in-Err-next.ensures.past_header way.merged.unbroken) c.loop-merge.invariant.read_faults c.in-Err-next.ensures.read_fault c.in-Err-next.ensures.broken
+    _ _ (g.F.Files.read_faults c.loop-alloc.files) _ _ _ c.merges_all.ensures.whole c.merges_all.ensures.so_far c.merges_all.ensures.broken c.merges_all.ensures.fails c.in-Err-next.fault.device c.in-Err-next.fault.fault
+    c.merge_fault.result c.merge_fault.ensures c.in-Err-next.ensures.fault (c.in-Err-next.ensures.past_header way.merged.unbroken) c.loop-alloc.invariant.read_faults c.in-Err-next.ensures.read_fault c.in-Err-next.ensures.broken
 
 pub serve_one-requires-clause-known : goal.serve_one-requires-clause-known
 serve_one-requires-clause-known g c =
-    let many = as_many c.args.merge.now.sources c.loop-merge.merge.sources c.loop-merge.invariant.sources in
-    let within : (1 ≤ c.in-Ok-Some.frame.device) × (c.in-Ok-Some.frame.device ≤ length c.loop-merge.merge.sources) = search rules in
-    subst (λ device. IsThere (entry_of c.args.chain.now device)) (sym (ap (λ (p : PacketState). p.device) c.new-in-loop-merge.ensures))
+    let many = as_many c.args.merge.now.sources c.loop-alloc.merge.sources c.loop-alloc.invariant.sources in
+    let within : (1 ≤ c.in-Ok-Some.frame.device) × (c.in-Ok-Some.frame.device ≤ length c.loop-alloc.merge.sources) = search rules in
+    subst (λ device. IsThere (entry_of c.args.chain.now device)) (sym (ap (λ (p : PacketState). p.device) c.new-in-loop-alloc.ensures))
     (c.devices_have_entries.ensures c.args.chain.now c.in-Ok-Some.frame.device c.is_accepted.ensures.numbered (omega (arith, within.0)) (omega (arith, within.1, many, c.requires.known)))
 
-pub loop-merge-preserved : goal.loop-merge-preserved
-loop-merge-preserved g c =
-    let kept = c.loop-merge.invariant in
+pub loop-alloc-preserved : goal.loop-alloc-preserved
+loop-alloc-preserved g c =
+    let kept = c.loop-alloc.invariant in
     record {
       way = λ names first merged.
-          let way = still c.args.chain.now c.args.writers.now names first (g.F.Files.held c.loop-merge.files) c.loop-merge.merge c.loop-merge.tables (g.F.Files.written c.args.files.now) (g.F.Files.written c.loop-merge.files) (g.F.Files.written c.next.new.files) c.loop-merge.order.items
+          let way = still c.args.chain.now c.args.writers.now names first (g.F.Files.held c.loop-alloc.files) c.loop-alloc.merge c.loop-alloc.tables (g.F.Files.written c.args.files.now) (g.F.Files.written c.loop-alloc.files) (g.F.Files.written c.next.new.files) c.loop-alloc.order.items
           c.next.ensures.written (kept.way names first merged) in
           let more : HasMerged names first (g.F.Files.held c.next.new.files) (way.frames ++ c.in-Ok-Some.frame ∷ []) c.next.new.self =
-          c.merges_all.ensures.on names first (g.F.Files.held c.loop-merge.files) (g.F.Files.held c.next.new.files) way.frames c.loop-merge.merge c.next.new.self c.in-Ok-Some.frame way.merged
+          c.merges_all.ensures.on names first (g.F.Files.held c.loop-alloc.files) (g.F.Files.held c.next.new.files) way.frames c.loop-alloc.merge c.next.new.self c.in-Ok-Some.frame way.merged
           (search rules) (search rules) (search rules) (search rules) (search rules) (search rules) in
-          goes_on c.args.chain.now c.args.writers.now names first (g.F.Files.held c.loop-merge.files) c.loop-merge.merge c.loop-merge.tables (g.F.Files.written c.args.files.now) (g.F.Files.written c.next.new.files) c.loop-merge.order.items way
-          (g.F.Files.held c.serve_one.new.files) c.next.new.self c.in-Ok-Some.frame c.new-in-loop-merge.result c.in-Ok-Some.frame.number (omega (arith, c.loop-merge-test.true, c.given.ensures)) c.new-in-loop-merge.ensures (search rules)
+          goes_on c.args.chain.now c.args.writers.now names first (g.F.Files.held c.loop-alloc.files) c.loop-alloc.merge c.loop-alloc.tables (g.F.Files.written c.args.files.now) (g.F.Files.written c.next.new.files) c.loop-alloc.order.items way
+          (g.F.Files.held c.serve_one.new.files) c.next.new.self c.in-Ok-Some.frame c.new-in-loop-alloc.result c.in-Ok-Some.frame.number (omega (arith, c.loop-alloc-test.true, c.given.ensures)) c.new-in-loop-alloc.ensures (search rules)
           (c.merges_all.ensures.still names first (g.F.Files.held c.next.new.files) (g.F.Files.held c.serve_one.new.files) (way.frames ++ c.in-Ok-Some.frame ∷ []) c.next.new.self c.serve_one.ensures.held more)
           c.one_packet_behind_others.ensures c.serve_one.new.tables (g.F.Files.written c.serve_one.new.files) c.serve_one.new.order.items
-          (subst (λ (w : Outputs). HasServedOne AllGain c.args.chain.now w c.loop-merge.tables c.serve_one.new.tables c.new-in-loop-merge.result c.in-Ok-Some.frame.number (g.F.Files.written c.next.new.files) (g.F.Files.written c.serve_one.new.files) c.loop-merge.order.items c.serve_one.new.order.items) kept.writers c.in-Ok-serve_one.ensures.ok);
-      few = let room = c.loop-merge-test.true in let given = c.given.ensures in let more : c.next.new.self.given ≡ c.loop-merge.merge.given + 1 = search rules in omega (arith, room, given, more);
+          (subst (λ (w : Outputs). HasServedOne AllGain c.args.chain.now w c.loop-alloc.tables c.serve_one.new.tables c.new-in-loop-alloc.result c.in-Ok-Some.frame.number (g.F.Files.written c.next.new.files) (g.F.Files.written c.serve_one.new.files) c.loop-alloc.order.items c.serve_one.new.order.items) kept.writers c.in-Ok-serve_one.ensures.ok);
+      few = let room = c.loop-alloc-test.true in let given = c.given.ensures in let more : c.next.new.self.given ≡ c.loop-alloc.merge.given + 1 = search rules in omega (arith, room, given, more);
+      tables = c.serve_one.ensures.tables;
       sources = c.next.ensures.names ∙ kept.sources;
       writers = c.serve_one.ensures.names ∙ kept.writers;
-      other_held = beside_twice (names_of c.args.merge.now.sources) _ _ _ (beside_twice (names_of c.args.merge.now.sources) _ _ _ kept.other_held (subst (λ (l : List (List ℕ)). IsSameBeside l (g.F.Files.held c.loop-merge.files) (g.F.Files.held c.next.new.files)) kept.sources c.next.ensures.other_files))
+      other_held = beside_twice (names_of c.args.merge.now.sources) _ _ _ (beside_twice (names_of c.args.merge.now.sources) _ _ _ kept.other_held (subst (λ (l : List (List ℕ)). IsSameBeside l (g.F.Files.held c.loop-alloc.files) (g.F.Files.held c.next.new.files)) kept.sources c.next.ensures.other_files))
           (beside_same (names_of c.args.merge.now.sources) _ _ c.serve_one.ensures.held);
       other_written = elsewhere_twice c.args.writers.now _ _ _ (elsewhere_twice c.args.writers.now _ _ _ kept.other_written (elsewhere_same c.args.writers.now _ _ c.next.ensures.written))
           (subst (λ (w : Outputs). IsSameElsewhere w (g.F.Files.written c.next.new.files) (g.F.Files.written c.serve_one.new.files)) kept.writers c.serve_one.ensures.other_written);
@@ -77,50 +79,50 @@ loop-merge-preserved g c =
 
 pub returns-in-Err-serve_one-clause-serving : goal.returns-in-Err-serve_one-clause-serving
 returns-in-Err-serve_one-clause-serving g c = λ names first merged.
-    let kept = c.loop-merge.invariant in
-    let way = still c.args.chain.now c.args.writers.now names first (g.F.Files.held c.loop-merge.files) c.loop-merge.merge c.loop-merge.tables (g.F.Files.written c.args.files.now) (g.F.Files.written c.loop-merge.files) (g.F.Files.written c.next.new.files) c.loop-merge.order.items
+    let kept = c.loop-alloc.invariant in
+    let way = still c.args.chain.now c.args.writers.now names first (g.F.Files.held c.loop-alloc.files) c.loop-alloc.merge c.loop-alloc.tables (g.F.Files.written c.args.files.now) (g.F.Files.written c.loop-alloc.files) (g.F.Files.written c.next.new.files) c.loop-alloc.order.items
     c.next.ensures.written (kept.way names first merged) in
     let more : HasMerged names first (g.F.Files.held c.next.new.files) (way.frames ++ c.in-Ok-Some.frame ∷ []) c.next.new.self =
-    c.merges_all.ensures.on names first (g.F.Files.held c.loop-merge.files) (g.F.Files.held c.next.new.files) way.frames c.loop-merge.merge c.next.new.self c.in-Ok-Some.frame way.merged
+    c.merges_all.ensures.on names first (g.F.Files.held c.loop-alloc.files) (g.F.Files.held c.next.new.files) way.frames c.loop-alloc.merge c.next.new.self c.in-Ok-Some.frame way.merged
     (search rules) (search rules) (search rules) (search rules) (search rules) (search rules) in
-    breaks c.args.chain.now c.args.writers.now names first (g.F.Files.held c.loop-merge.files) c.loop-merge.merge c.loop-merge.tables (g.F.Files.written c.args.files.now) (g.F.Files.written c.next.new.files) c.loop-merge.order.items way
-    (g.F.Files.held c.next.new.files) c.next.new.self c.in-Ok-Some.frame c.new-in-loop-merge.result c.in-Ok-Some.frame.number (omega (arith, c.loop-merge-test.true, c.given.ensures)) c.new-in-loop-merge.ensures (search rules) more
+    breaks c.args.chain.now c.args.writers.now names first (g.F.Files.held c.loop-alloc.files) c.loop-alloc.merge c.loop-alloc.tables (g.F.Files.written c.args.files.now) (g.F.Files.written c.next.new.files) c.loop-alloc.order.items way
+    (g.F.Files.held c.next.new.files) c.next.new.self c.in-Ok-Some.frame c.new-in-loop-alloc.result c.in-Ok-Some.frame.number (omega (arith, c.loop-alloc-test.true, c.given.ensures)) c.new-in-loop-alloc.ensures (search rules) more
     c.merges_all.ensures.so_far c.one_packet_behind_others.ensures _ (g.F.Files.written c.serve_one.new.files) c.serve_one.new.order.items c.in-Err-serve_one.fault _ _ _ (g.F.Files.write_faults c.next.new.files) _
-    (subst (λ (w : Outputs). HasNotServedOne c.args.chain.now w c.loop-merge.tables c.new-in-loop-merge.result c.in-Ok-Some.frame.number (g.F.Files.written c.next.new.files) (g.F.Files.written c.serve_one.new.files) c.loop-merge.order.items c.serve_one.new.order.items) kept.writers c.in-Err-serve_one.ensures.err)
+    (subst (λ (w : Outputs). HasNotServedOne c.args.chain.now w c.loop-alloc.tables c.new-in-loop-alloc.result c.in-Ok-Some.frame.number (g.F.Files.written c.next.new.files) (g.F.Files.written c.serve_one.new.files) c.loop-alloc.order.items c.serve_one.new.order.items) kept.writers c.in-Err-serve_one.ensures.err)
     (never_fell_twice _ _ _ kept.write_faults c.next.ensures.write_faults)
     (subst (λ (w : Outputs). OutputFault w (g.F.Files.write_faults c.next.new.files) (g.F.Files.write_faults c.serve_one.new.files) c.in-Err-serve_one.fault) kept.writers c.in-Err-serve_one.ensures.cause)
 
 pub returns-in-Err-serve_one-clause-other_held : goal.returns-in-Err-serve_one-clause-other_held
 returns-in-Err-serve_one-clause-other_held g c =
-    let kept = c.loop-merge.invariant in
-    beside_twice (names_of c.args.merge.now.sources) _ _ _ (beside_twice (names_of c.args.merge.now.sources) _ _ _ kept.other_held (subst (λ (l : List (List ℕ)). IsSameBeside l (g.F.Files.held c.loop-merge.files) (g.F.Files.held c.next.new.files)) kept.sources c.next.ensures.other_files))
+    let kept = c.loop-alloc.invariant in
+    beside_twice (names_of c.args.merge.now.sources) _ _ _ (beside_twice (names_of c.args.merge.now.sources) _ _ _ kept.other_held (subst (λ (l : List (List ℕ)). IsSameBeside l (g.F.Files.held c.loop-alloc.files) (g.F.Files.held c.next.new.files)) kept.sources c.next.ensures.other_files))
     (beside_same (names_of c.args.merge.now.sources) _ _ c.serve_one.ensures.held)
 
 pub returns-in-Err-serve_one-clause-other_written : goal.returns-in-Err-serve_one-clause-other_written
 returns-in-Err-serve_one-clause-other_written g c =
-    let kept = c.loop-merge.invariant in
+    let kept = c.loop-alloc.invariant in
     elsewhere_twice c.args.writers.now _ _ _ (elsewhere_twice c.args.writers.now _ _ _ kept.other_written (elsewhere_same c.args.writers.now _ _ c.next.ensures.written))
     (subst (λ (w : Outputs). IsSameElsewhere w (g.F.Files.written c.next.new.files) (g.F.Files.written c.serve_one.new.files)) kept.writers c.serve_one.ensures.other_written)
 
 pub returns-in-Ok-Some-next-clause-serving : goal.returns-in-Ok-Some-next-clause-serving
 returns-in-Ok-Some-next-clause-serving g c = λ names first merged.
-    ends_limit c.args.chain.now c.args.writers.now names first (g.F.Files.held c.loop-merge.files) c.loop-merge.merge c.loop-merge.tables _ (g.F.Files.written c.next-2.new.files) c.loop-merge.order.items
-    (still c.args.chain.now c.args.writers.now names first (g.F.Files.held c.loop-merge.files) c.loop-merge.merge c.loop-merge.tables _ (g.F.Files.written c.loop-merge.files) (g.F.Files.written c.next-2.new.files) c.loop-merge.order.items
-    c.next-2.ensures.written (c.loop-merge.invariant.way names first merged))
-    _ _ (g.F.Files.read_faults c.loop-merge.files) _ _ _ c.merges_all.ensures.full c.in-Ok-Some-next.field-0-0 (all_left (g.F.Files.held c.next-2.new.files) c.next-2.new.self.sources) (omega (arith, c.loop-merge-test.false, c.given.ensures)) (search rules)
+    ends_limit c.args.chain.now c.args.writers.now names first (g.F.Files.held c.loop-alloc.files) c.loop-alloc.merge c.loop-alloc.tables _ (g.F.Files.written c.next-2.new.files) c.loop-alloc.order.items
+    (still c.args.chain.now c.args.writers.now names first (g.F.Files.held c.loop-alloc.files) c.loop-alloc.merge c.loop-alloc.tables _ (g.F.Files.written c.loop-alloc.files) (g.F.Files.written c.next-2.new.files) c.loop-alloc.order.items
+    c.next-2.ensures.written (c.loop-alloc.invariant.way names first merged))
+    _ _ (g.F.Files.read_faults c.loop-alloc.files) _ _ _ c.merges_all.ensures.full c.in-Ok-Some-next.field-0-0 (all_left (g.F.Files.held c.next-2.new.files) c.next-2.new.self.sources) (omega (arith, c.loop-alloc-test.false, c.given.ensures)) (search rules)
 
 pub returns-in-Ok-None-next-clause-serving : goal.returns-in-Ok-None-next-clause-serving
 returns-in-Ok-None-next-clause-serving g c = λ names first merged.
-    ends_done c.args.chain.now c.args.writers.now names first (g.F.Files.held c.loop-merge.files) c.loop-merge.merge c.loop-merge.tables _ (g.F.Files.written c.next-2.new.files) c.loop-merge.order.items
-    (still c.args.chain.now c.args.writers.now names first (g.F.Files.held c.loop-merge.files) c.loop-merge.merge c.loop-merge.tables _ (g.F.Files.written c.loop-merge.files) (g.F.Files.written c.next-2.new.files) c.loop-merge.order.items
-    c.next-2.ensures.written (c.loop-merge.invariant.way names first merged))
-    _ _ (g.F.Files.read_faults c.loop-merge.files) _ _ _ c.merges_all.ensures.whole (c.in-Ok-None-next.ensures.ends c.in-Ok-None-next.field-0-is)
+    ends_done c.args.chain.now c.args.writers.now names first (g.F.Files.held c.loop-alloc.files) c.loop-alloc.merge c.loop-alloc.tables _ (g.F.Files.written c.next-2.new.files) c.loop-alloc.order.items
+    (still c.args.chain.now c.args.writers.now names first (g.F.Files.held c.loop-alloc.files) c.loop-alloc.merge c.loop-alloc.tables _ (g.F.Files.written c.loop-alloc.files) (g.F.Files.written c.next-2.new.files) c.loop-alloc.order.items
+    c.next-2.ensures.written (c.loop-alloc.invariant.way names first merged))
+    _ _ (g.F.Files.read_faults c.loop-alloc.files) _ _ _ c.merges_all.ensures.whole (c.in-Ok-None-next.ensures.ends c.in-Ok-None-next.field-0-is)
 
 pub returns-clause-serving : goal.returns-clause-serving
 returns-clause-serving g c = λ names first merged.
-    let way = c.loop-merge.invariant.way names first merged in
-    ends_fault c.args.chain.now c.args.writers.now names first (g.F.Files.held c.loop-merge.files) c.loop-merge.merge c.loop-merge.tables _ (g.F.Files.written c.next-2.new.files) c.loop-merge.order.items
-    (still c.args.chain.now c.args.writers.now names first (g.F.Files.held c.loop-merge.files) c.loop-merge.merge c.loop-merge.tables _ (g.F.Files.written c.loop-merge.files) (g.F.Files.written c.next-2.new.files) c.loop-merge.order.items
+    let way = c.loop-alloc.invariant.way names first merged in
+    ends_fault c.args.chain.now c.args.writers.now names first (g.F.Files.held c.loop-alloc.files) c.loop-alloc.merge c.loop-alloc.tables _ (g.F.Files.written c.next-2.new.files) c.loop-alloc.order.items
+    (still c.args.chain.now c.args.writers.now names first (g.F.Files.held c.loop-alloc.files) c.loop-alloc.merge c.loop-alloc.tables _ (g.F.Files.written c.loop-alloc.files) (g.F.Files.written c.next-2.new.files) c.loop-alloc.order.items
     c.next-2.ensures.written way)
-    _ _ (g.F.Files.read_faults c.loop-merge.files) _ _ _ c.merges_all.ensures.whole c.merges_all.ensures.so_far c.merges_all.ensures.broken c.merges_all.ensures.fails c.in-Err-next-2.fault.device c.in-Err-next-2.fault.fault
-    c.merge_fault-in-Err-next-2.result c.merge_fault-in-Err-next-2.ensures c.in-Err-next-2.ensures.fault (c.in-Err-next-2.ensures.past_header way.merged.unbroken) c.loop-merge.invariant.read_faults c.in-Err-next-2.ensures.read_fault c.in-Err-next-2.ensures.broken
+    _ _ (g.F.Files.read_faults c.loop-alloc.files) _ _ _ c.merges_all.ensures.whole c.merges_all.ensures.so_far c.merges_all.ensures.broken c.merges_all.ensures.fails c.in-Err-next-2.fault.device c.in-Err-next-2.fault.fault
+    c.merge_fault-in-Err-next-2.result c.merge_fault-in-Err-next-2.ensures c.in-Err-next-2.ensures.fault (c.in-Err-next-2.ensures.past_header way.merged.unbroken) c.loop-alloc.invariant.read_faults c.in-Err-next-2.ensures.read_fault c.in-Err-next-2.ensures.broken

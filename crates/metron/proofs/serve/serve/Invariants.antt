@@ -3,16 +3,18 @@ use Rattle.mt_io.specs.Files.{NeverFell}
 use Rattle.mt_pcap.specs.Merge.{most_frames}
 use Rattle.mt_pcap.specs.Merged.{HasMerged}
 use Rattle.mt_pcap.specs.Sources.{names_of, IsSameBeside}
+use Rattle.mt_rewriter.specs.Kept.{AreTables}
 use Rattle.metron.specs.Serving.{Held, IsSameElsewhere}
 use Rattle.metron.proofs.Frames.{IsUnderWay}
 use Rattle.metron.proofs.serve.serve.Given as goal
 
 -- so many frames were served
-abbrev pub invariant-loop-merge : goal.invariant-loop-merge
-invariant-loop-merge g l = record {
+abbrev pub invariant-loop-alloc : goal.invariant-loop-alloc
+invariant-loop-alloc g l = record {
   way : (names : List (List ℕ)) (first : Held) → HasMerged names first (g.F.Files.held l.fn.files) [] l.fn.merge
       → IsUnderWay l.chain l.fn.writers names first (g.F.Files.held l.files) l.merge l.tables (g.F.Files.written l.fn.files) (g.F.Files.written l.files) l.order.items;
   few : l.merge.given ≤ most_frames;
+  tables : AreTables l.chain l.tables;
   sources : names_of l.merge.sources ≡ names_of l.fn.merge.sources;
   writers : l.writers ≡ l.fn.writers;
   other_held : IsSameBeside (names_of l.fn.merge.sources) (g.F.Files.held l.fn.files) (g.F.Files.held l.files);
@@ -21,5 +23,5 @@ invariant-loop-merge g l = record {
   write_faults : NeverFell (g.F.Files.write_faults l.fn.files) (g.F.Files.write_faults l.files);
 }
 
-abbrev pub decreases-loop-merge : goal.decreases-loop-merge
-decreases-loop-merge g l = most_frames - l.merge.given
+abbrev pub decreases-loop-alloc : goal.decreases-loop-alloc
+decreases-loop-alloc g l = most_frames - l.merge.given
