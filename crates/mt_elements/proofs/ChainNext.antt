@@ -1,5 +1,5 @@
 -- Outputs and devices beyond the tables of a chain lead nowhere.
-use Rattle.std.proofs.Common.{◌≡◌, ◌∙◌, ap, refl, sym, subst, ℕ, suc, ◌<◌, ◌≤◌, not, cond, nat_eq, nat_lt, Bool, true, false, List, length, position, get_or, slice_get, Option, Some, None, arith}
+use Rattle.std.proofs.Common.{◌≡◌, ◌∙◌, ap, refl, sym, subst, ℕ, ◌<◌, ◌≤◌, not, cond, nat_eq, Bool, true, false, List, length, position, get_or, slice_get, Option, Some, None, arith}
 use Rattle.std.proofs.lemmas.Bool.{eqb-true, ltb-true}
 use Rattle.std.proofs.lemmas.Option.{slice_get-get_or, slice_get_past, slice_get_within}
 use Rattle.mt_lists.proofs.Bools.{and_true}

@@ -1,5 +1,5 @@
 -- How many outputs are wired, wire by wire; and elements by which devices enter, one after the other.
-use Rattle.std.proofs.Common.{◌≡◌, ◌∙◌, ap, refl, sym, subst, inl, inr, ℕ, suc, ◌+◌, ◌<◌, ◌≤◌, max, Bool, true, false, List, [], ◌∷◌, ◌++◌, drop, length, get_or, position, slice_get, Option, Some, None, arith}
+use Rattle.std.proofs.Common.{◌≡◌, ◌∙◌, ap, sym, subst, inl, inr, ℕ, ◌+◌, ◌<◌, ◌≤◌, max, List, [], ◌∷◌, ◌++◌, drop, length, get_or, position, slice_get, Option, Some, None, arith}
 use Rattle.std.proofs.lemmas.List.{length_push, at_drop_more, at_drop_all}
 use Rattle.mt_graph.specs.declared.Wire.{Wire}
 use Rattle.mt_kinds.specs.declared.kind.Kind.{Kind}

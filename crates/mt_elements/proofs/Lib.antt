@@ -17,6 +17,7 @@ pub mod TableBuilt
 pub mod OneAnswer
 pub mod CountsRaised
 pub mod Looked
+pub mod RepliesWorked
 pub mod Rows
 pub mod Turns
 pub mod Checked

@@ -1,10 +1,10 @@
 -- What is told of the lowest element.
-use Rattle.std.proofs.Common.{◌≡◌, ap, refl, sym, subst, ℕ, ◌<◌, List, Option, Some, None, IfSome, IfNone}
+use Rattle.std.proofs.Common.{◌≡◌, refl, sym, subst, ℕ, ◌<◌, List, Option, Some, None, IfSome, IfNone}
 use Rattle.mt_graph.specs.declared.Element.{Element}
 use Rattle.mt_elements.specs.declared.fault.ChainWhy.{ChainWhy}
 use Rattle.mt_elements.specs.declared.fault.Refusal.{Refusal}
 use Rattle.mt_elements.specs.declared.fault.Refusal.TheVariants.{Fault}
-use Rattle.mt_elements.specs.Told.{told_of, IsLowest, Nowhere, Tells}
+use Rattle.mt_elements.specs.Told.{told_of, IsLowest, Tells}
 
 -- it is told of an element of which something holds, and of no lower one
 pub told : (elements : List Element) (why : ChainWhy) (P : ℕ → Type 0) (element : ℕ) (r : Refusal) → P element → ((other : ℕ) → other < element → P other → ⊥)

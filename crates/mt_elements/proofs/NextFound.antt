@@ -1,5 +1,5 @@
 -- Where an output leads, by the place of its wire.
-use Rattle.std.proofs.Common.{◌≡◌, ◌∙◌, ap, refl, sym, subst, inl, inr, ℕ, ◌+◌, ◌<◌, ◌≤◌, not, cond, Bool, true, false, List, [], ◌∷◌, length, map, position, nat_lt, slice_get, Option, Some, None, arith}
+use Rattle.std.proofs.Common.{◌≡◌, ◌∙◌, ap, refl, sym, inl, inr, ℕ, ◌+◌, not, cond, Bool, List, [], ◌∷◌, length, map, position, nat_lt, slice_get, Option, Some, None, arith}
 use Rattle.std.specs.List.{find, position_or_len}
 use Rattle.std.specs.Prelude.{option_map}
 use Rattle.std.proofs.lemmas.Bool.{cases_lt}

@@ -1,15 +1,14 @@
 -- The definitions on small examples.
-use Rattle.std.proofs.Common.{◌≡◌, refl, ℕ, Bool, true, false, List, [], ◌∷◌}
-use Rattle.std.specs.Prelude.{codes, Option, Some, None, Ok}
-use Rattle.std.specs.Str.{bytes_eq}
+use Rattle.std.proofs.Common.{◌≡◌, refl, ℕ, false, List, [], ◌∷◌}
+use Rattle.std.specs.Prelude.{codes, Some, None}
 use Rattle.mt_kinds.specs.declared.description.Description.TheVariants.{FromDevice, ToDevice, Rewriter}
 use Rattle.mt_kinds.specs.declared.description.Misread.TheVariants.{BadArgs}
 use Rattle.mt_kinds.specs.declared.rewriter.Pool.{Pool}
 use Rattle.mt_kinds.specs.declared.rewriter.SourcePort.TheVariants as port
 use Rattle.mt_kinds.specs.declared.rewriter.Spec.TheVariants as spec
-use Rattle.mt_kinds.specs.declared.written.WrittenPort.TheVariants.{Same, One, Range}
+use Rattle.mt_kinds.specs.declared.written.WrittenPort.TheVariants.{One, Range}
 use Rattle.mt_kinds.specs.declared.written.WrittenSpec.TheVariants.{Drop, Mapper}
-use Rattle.mt_elements.specs.Described.{scope_length, scope_of, is_known, misfit, firsts, entries_of, devices_of, device_of, is_pool, port_of, spec_of}
+use Rattle.mt_elements.specs.Described.{scope_length, scope_of, is_known, misfit, firsts, devices_of, device_of, is_pool, port_of, spec_of}
 
 -- ---- scopes and mappers
 

@@ -1,9 +1,8 @@
 -- A table of where outputs lead, row by row.
-use Rattle.std.proofs.Common.{◌≡◌, ◌∙◌, ap, refl, sym, subst, inl, inr, ℕ, zero, suc, ◌⊎◌, ◌+◌, ◌<◌, ◌≤◌, Bool, true, false, List, [], ◌∷◌, ◌++◌, length, get_or, slice_get, MatchOption, Option, Some, None, arith}
+use Rattle.std.proofs.Common.{◌≡◌, ◌∙◌, ap, refl, sym, subst, inl, inr, ℕ, zero, suc, ◌⊎◌, ◌+◌, ◌<◌, ◌≤◌, true, false, List, [], ◌∷◌, ◌++◌, length, slice_get, MatchOption, Option, Some, None, arith}
 use Rattle.std.proofs.lemmas.Bool.{cases_lt}
 use Rattle.std.proofs.lemmas.List.{length_push}
-use Rattle.std.proofs.lemmas.Option.{slice_get_within}
-use Rattle.mt_elements.specs.ChainState.{ChainState, next_of, outputs_of, outputs_in, mappers_of, wired_of}
+use Rattle.mt_elements.specs.ChainState.{ChainState, next_of, outputs_of}
 use Rattle.mt_elements.specs.Table.{IsRow, IsTable}
 use Rattle.mt_elements.specs.Wired.{HasOpen, free_at}
 use Rattle.mt_elements.proofs.ChainNext.{no_kind}

@@ -1,6 +1,6 @@
 -- A mapper has no more patterns than its element has arguments.
-use Rattle.std.proofs.Common.{◌≡◌, ◌∙◌, ap, refl, sym, subst, inl, inr, ℕ, zero, suc, ◌+◌, ◌^◌, ◌<◌, ◌≤◌, ◌==◌, cond, Bool, true, false, List, [], ◌∷◌, ◌++◌, length, map, IfSome, All, Contains, arith}
-use Rattle.std.specs.Prelude.{⊤, codes, Option, Some, None, Result, Ok, Err, option_map, option_and_then}
+use Rattle.std.proofs.Common.{◌≡◌, ◌∙◌, ap, refl, sym, subst, inl, inr, ℕ, suc, ◌^◌, ◌<◌, ◌≤◌, ◌==◌, cond, Bool, true, false, List, [], ◌∷◌, length, map, IfSome, All, Contains, arith}
+use Rattle.std.specs.Prelude.{⊤, codes, Option, Some, None, Ok, Err, option_map, option_and_then}
 use Rattle.std.specs.Str.{bytes_eq}
 use Rattle.std.proofs.lemmas.List.{length-map}
 use Rattle.std.proofs.lemmas.List.Elements.{All-tail, Contains-append_cases}
@@ -13,7 +13,6 @@ use Rattle.mt_kinds.specs.Descriptions.{is_class_name, device_of, described, or_
 use Rattle.mt_kinds.specs.Rewriters.{specs_of, templates_of, template_of as written_of}
 use Rattle.mt_kinds.specs.declared.description.Description.{Description}
 use Rattle.mt_kinds.specs.declared.description.Description.TheVariants.{FromDevice, ToDevice, Rewriter, Mapper, Settled}
-use Rattle.mt_kinds.specs.declared.description.Misread.{Misread}
 use Rattle.mt_kinds.specs.declared.description.Misread.TheVariants.{UnknownClass}
 use Rattle.mt_kinds.specs.declared.kind.Kind.{Kind}
 use Rattle.mt_kinds.specs.declared.kind.Kind.TheVariants.{RoundRobinIPMapper}

@@ -1,13 +1,11 @@
 -- The first wires are without fault, and the outputs that they leave are the keys.
-use Rattle.std.proofs.Common.{◌≡◌, ◌∙◌, ap, refl, sym, subst, inl, inr, ℕ, zero, suc, ◌+◌, ◌<◌, ◌≤◌, not, cond, Bool, true, false, ◌||◌, List, [], ◌∷◌, ◌++◌, length, map, take, get_or, slice_get, Option, Some, None, arith}
+use Rattle.std.proofs.Common.{◌≡◌, ◌∙◌, ap, refl, sym, inl, inr, ℕ, ◌+◌, ◌<◌, ◌≤◌, cond, Bool, true, false, ◌||◌, List, [], ◌∷◌, ◌++◌, length, map, take, slice_get, Some, None, arith}
 use Rattle.std.specs.List.{list_any}
 use Rattle.std.proofs.lemmas.Bool.{cases_lt}
 use Rattle.std.proofs.lemmas.List.{take_more, take_all}
 use Rattle.std.proofs.lemmas.Option.{slice_get_within, get_or_from_slice_get}
 use Rattle.indexmap.specs.IndexSet.{insert_key}
 use Rattle.mt_graph.specs.declared.Wire.{Wire}
-use Rattle.mt_elements.specs.declared.fault.ChainFault.{ChainFault}
-use Rattle.mt_elements.specs.declared.fault.ChainWhy.{ChainWhy}
 use Rattle.mt_elements.specs.declared.fault.ChainWhy.TheVariants.{NoSuchPort, TwiceWired}
 use Rattle.mt_elements.specs.declared.wires.Output.{Output}
 use Rattle.mt_elements.specs.contracts.wires.OutputPartialEq.TheImpl.{ghosts}

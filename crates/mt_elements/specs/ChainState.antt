@@ -1,5 +1,5 @@
 -- A chain as contracts see it: its elements, the wires between them, its devices and its pools.
-use Rattle.std.specs.Prelude.{◌≡◌, ℕ, suc, ◌+◌, max, ◌==◌, ◌&&◌, Bool, false, if◌then◌else◌, List, [], ◌∷◌, ◌++◌, slice_get, position, Option, Some, None, option_map}
+use Rattle.std.specs.Prelude.{◌≡◌, ℕ, suc, max, ◌==◌, ◌&&◌, Bool, false, if◌then◌else◌, List, [], ◌∷◌, ◌++◌, slice_get, position, Option, Some, None, option_map}
 use Rattle.std.specs.List.{find}
 use Rattle.mt_graph.specs.declared.Wire.{Wire}
 use Rattle.mt_kinds.specs.declared.kind.Kind.{Kind}
@@ -7,7 +7,7 @@ use Rattle.mt_kinds.specs.declared.kind.Kind.TheVariants.{FromDevice, IPRewriter
 use Rattle.mt_kinds.specs.declared.rewriter.Pool.{Pool}
 use Rattle.mt_kinds.specs.declared.rewriter.Spec.{Spec}
 use Rattle.mt_kinds.specs.declared.rewriter.Template.{Template}
-use Rattle.mt_kinds.specs.Ports.{input_count, output_count, leads}
+use Rattle.mt_kinds.specs.Ports.{input_count, output_count}
 
 -- The elements by number, from 0; the wires in the order of the text; the names of the devices, of which the
 -- first, as many as the entries, are those on which frames arrive, device 1 first; the pools by number, from 0.

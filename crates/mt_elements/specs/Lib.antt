@@ -6,5 +6,6 @@ pub mod Told
 pub mod Table
 pub mod Accepted
 pub mod Refused
+pub mod Replies
 pub mod Numbered
 pub mod Kept

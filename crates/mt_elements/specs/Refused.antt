@@ -1,6 +1,6 @@
 -- The first refusal of a graph. It is looked at the elements, at the wires, at outputs, rings, layers and pools, and at
 -- the devices, in this order.
-use Rattle.std.specs.Prelude.{◌≡◌, ℕ, List}
+use Rattle.std.specs.Prelude.{◌≡◌, List}
 use Rattle.mt_graph.specs.declared.Element.{Element}
 use Rattle.mt_graph.specs.declared.Wire.{Wire}
 use Rattle.mt_elements.specs.declared.fault.ChainFault.{ChainFault}

@@ -64,7 +64,7 @@ impl Chain {
         ensures { IfOk result (λ c. c ≡ layout) }
     {
         let arrivals = arrivals_of(alloc, layout.kinds(), layout.entries())?;
-        let sizes = sizes_of(alloc, layout.mappers())?;
+        let sizes = sizes_of(alloc, layout.mappers().as_slice())?;
         let specs = specs_of(alloc, layout.kinds())?;
         let pools = Vec::from_slice(alloc, layout.pools())?;
         Ok(Chain {
@@ -165,7 +165,7 @@ impl Chain {
     pub fn templates(&self) -> &[Templates]
         ensures { result.now ≡ mappers_of self.now.kinds }
     {
-        self.layout.mappers()
+        self.layout.mappers().as_slice()
     }
 
     /// What a server needs of the chain's rewriters.

@@ -2,6 +2,7 @@
 ghost use Rattle.std.specs.Prelude.{◌≡◌, ◌≤◌, length, map, Ok, IfOk, IfErr};
 ghost use Rattle.std.specs.List.{All};
 ghost use Rattle.mt_elements.specs.ChainState.{mappers_of};
+ghost use Rattle.mt_elements.specs.Replies.{AreReplies};
 ghost use Rattle.mt_elements.specs.Described.{HasFewArguments, IsChainOf, chain_of, describe};
 ghost use Rattle.mt_elements.specs.Numbered.{IsNumbered};
 ghost use Rattle.mt_elements.specs.Told.{IsUnread, Tells};
@@ -13,17 +14,19 @@ use crate::numbering::{add_entries, add_exits, pools_of};
 use crate::reading::described;
 use indexmap::IndexSet;
 use mt_graph::{Element, Wire};
-use mt_kinds::{Description, Kind, Pool, Templates};
+use mt_kinds::{Description, Kind, Mappers, Outs, Pool, Templates, replies_of};
 use mt_text::Text;
 use std::alloc::{AllocError, Global};
 use std::marker::Model;
 
-/// What a graph's elements are, how they are wired, and the devices and pools that they name. A contract sees
-/// the chain that it would be.
+/// What a graph's elements are, how they are wired, and the devices and pools that they name. The outputs that mappers
+/// name and those by which replies to flows of each element leave are worked out once. A contract sees the chain that it
+/// would be.
 #[derive(Drop)]
 pub(crate) struct Layout {
     kinds: Vec<Kind>,
-    mappers: Vec<Templates>,
+    mappers: Mappers,
+    replies: Vec<Outs>,
     wires: Vec<Wire>,
     devices: Vec<Text>,
     entries: u32,
@@ -33,6 +36,7 @@ pub(crate) struct Layout {
 impl Model for Layout {
     ghost use Rattle.std.specs.Prelude.{◌≡◌, ◌≤◌, length};
     ghost use Rattle.mt_elements.specs.ChainState.{ChainState, mappers_of};
+    ghost use Rattle.mt_elements.specs.Replies.{AreReplies};
     ghost use Rattle.mt_pattern.specs.contracts.pattern.Pattern as pattern;
     ghost use Rattle.std.specs.Coded.{codes};
 
@@ -42,7 +46,7 @@ impl Model for Layout {
 
     ghost view = { λ l. record { kinds = l.kinds.items; wires = l.wires.items; devices = l.devices.items; entries = l.entries; pools = l.pools.keys } };
 
-    ghost invariant = { λ l. (l.mappers.items ≡ mappers_of l.kinds.items) × (length l.kinds.items ≤ 512) };
+    ghost invariant = { λ l. (l.mappers ≡ mappers_of l.kinds.items) × (length l.kinds.items ≤ 512) × AreReplies l.mappers l.kinds.items l.replies.items };
 }
 
 impl Layout {
@@ -58,10 +62,12 @@ impl Layout {
         requires few { length kinds.items ≤ 512 }
         ensures { IfOk result (λ l. l ≡ record { kinds = kinds.items; wires = wires.items; devices = devices.items; entries = entries; pools = pools.keys }) }
     {
-        let mappers = mappers_of(alloc, &kinds)?;
+        let mappers = Mappers::new(alloc, mappers_of(alloc, &kinds)?)?;
+        let replies = all_replies(alloc, &mappers, &kinds)?;
         Ok(Layout {
             kinds,
             mappers,
+            replies,
             wires,
             devices,
             entries,
@@ -77,11 +83,18 @@ impl Layout {
         &self.kinds
     }
 
-    /// The patterns of each mapper.
-    pub fn mappers(&self) -> &[Templates]
+    /// The patterns of each mapper, with the outputs that they name.
+    pub fn mappers(&self) -> &Mappers
         ensures { result.now ≡ mappers_of self.now.kinds }
     {
         &self.mappers
+    }
+
+    /// The outputs by which replies to flows of each element leave.
+    pub fn replies(&self) -> &[Outs]
+        ensures { AreReplies (mappers_of self.now.kinds) self.now.kinds result.now }
+    {
+        &self.replies
     }
 
     /// The patterns of each mapper, and nothing else of the layout.
@@ -89,7 +102,7 @@ impl Layout {
         ensures { result.items ≡ mappers_of self.kinds }
     {
         let Layout { mappers, .. } = self;
-        mappers
+        mappers.into_list()
     }
 
     /// The wires.
@@ -135,6 +148,18 @@ fn mappers_of(alloc: Global, kinds: &[Kind]) -> Result<Vec<Templates>, AllocErro
         rest = after;
     }
     Ok(mappers)
+}
+
+/// The outputs by which replies to flows of each element leave.
+fn all_replies(alloc: Global, mappers: &Mappers, kinds: &[Kind]) -> Result<Vec<Outs>, AllocError>
+    ensures { IfOk result (λ v. AreReplies mappers.now kinds.now v.items) }
+{
+    let mut replies = Vec::new(alloc);
+    for element in 0..kinds.len() {
+        let outs = replies_of(alloc, mappers, &kinds[element])?;
+        replies.push(outs)?;
+    }
+    Ok(replies)
 }
 
 /// The layout of elements with these descriptions.

@@ -19,7 +19,10 @@ impl Elements for Layout {
 
     fn leads(&self, element: u32, input: u32, out: u32) -> bool {
         match self.kinds().get(element as usize) {
-            Some(kind) => leads(self.mappers(), kind, input, out),
+            Some(kind) => {
+                let replies = &self.replies()[element as usize];
+                leads(self.mappers(), replies, kind, input, out)
+            }
             None => false,
         }
     }

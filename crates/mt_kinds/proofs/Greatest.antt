@@ -8,7 +8,7 @@ one_greatest : {A : Type 0} (of : A → ℕ) (x : A) (xs : List A) → greatest 
 unfolding greatest
 one_greatest of x xs = refl
 
-none_greatest : {A : Type 0} (of : A → ℕ) → greatest of [] ≡ 0
+pub none_greatest : {A : Type 0} (of : A → ℕ) → greatest of [] ≡ 0
 unfolding greatest
 none_greatest of = refl
 

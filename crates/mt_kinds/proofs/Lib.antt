@@ -1,6 +1,6 @@
 mod ArgumentsSpelled
 mod Greatest
-mod MappedOuts
+mod OutTables
 mod OutputsCounted
 mod PartsSpelled
 mod RewritersSpelled

@@ -5,6 +5,7 @@ pub mod Descriptions
 pub mod Filters
 pub mod Layers
 pub mod Outputs
+pub mod OutTables
 pub mod Patterns
 pub mod Ports
 pub mod RewriterSpelling

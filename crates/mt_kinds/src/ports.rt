@@ -1,13 +1,16 @@
-//! The inputs and outputs of an element. Mappers are their templates, by the mapper's number.
-ghost use Rattle.std.specs.Prelude.{◌≡◌, ◌≤◌, ◌==◌, length, max};
-ghost use Rattle.std.specs.List.{All, list_any};
-ghost use Rattle.mt_kinds.specs.Outputs.{ActionInRange, RuleInRange, HopInRange, TemplateInRange, SpecInRange, action_outs, filter_outs, route_outs, template_outs, templates_outs};
-ghost use Rattle.mt_kinds.specs.Ports.{input_count, mapper_at, spec_outs, rewriter_outs, output_count, may_be_open, is_in, forward_outs, reply_outs, is_reply_out, spec_leads, leads};
+//! The inputs and outputs of an element, and which outputs an input leads to.
+ghost use Rattle.std.specs.Prelude.{◌≡◌, ◌≤◌, ℕ, false, ◌||◌, get_or, length, max, IfOk};
+ghost use Rattle.std.specs.List.{All};
+ghost use Rattle.mt_kinds.specs.Outputs.{SpecInRange};
+ghost use Rattle.mt_kinds.specs.Ports.{input_count, spec_outs, rewriter_outs, output_count, may_be_open, is_in, forward_outs, reply_outs, is_reply_out, leads};
+ghost use Rattle.mt_kinds.specs.OutTables.{IsTable, IsReplyTable, led};
 
 use crate::Kind;
-use crate::hop::Hop;
-use crate::rewriter::{Spec, Template, Templates};
-use crate::rule::{FilterAction, Rule};
+use crate::counts::{filter_outs, greater, route_outs, template_outs};
+use crate::mappers::Mappers;
+use crate::outs::Outs;
+use crate::rewriter::Spec;
+use std::alloc::{AllocError, Global};
 
 /// How many inputs an element has: a rewriter one for each of its specifications, a `FromDevice` and a mapper
 /// none, any other one.
@@ -21,86 +24,8 @@ pub fn input_count(kind: &Kind) -> u32
     }
 }
 
-/// The greater of two numbers.
-fn greater(one: u32, other: u32) -> u32
-    ensures { result ≡ max one other }
-{
-    if one < other { other } else { one }
-}
-
-/// One more than the output that an action names, 0 where it names none.
-fn action_outs(action: FilterAction) -> u32
-    requires { ActionInRange action }
-    ensures value { result ≡ action_outs action }
-    ensures few { result ≤ 512 }
-{
-    match action {
-        FilterAction::Deny => 0,
-        FilterAction::Out(number) => number + 1,
-    }
-}
-
-/// One more than the greatest output that rules name, 0 where they name none.
-fn filter_outs(rules: &[Rule]) -> u32
-    requires { All RuleInRange rules.now }
-    ensures value { result ≡ filter_outs rules.now }
-    ensures few { result ≤ 512 }
-{
-    let mut count = 0;
-    for rule in rules {
-        count = greater(count, action_outs(rule.action));
-    }
-    count
-}
-
-/// One more than the greatest output that entries of a route table name, 0 where there are none.
-fn route_outs(hops: &[Hop]) -> u32
-    requires { All HopInRange hops.now }
-    ensures value { result ≡ route_outs hops.now }
-    ensures few { result ≤ 512 }
-{
-    let mut count = 0;
-    for hop in hops {
-        count = greater(count, hop.out + 1);
-    }
-    count
-}
-
-/// One more than the greatest output that a template names.
-fn template_outs(template: &Template) -> u32
-    requires { TemplateInRange template.now }
-    ensures value { result ≡ template_outs template.now }
-    ensures few { result ≤ 512 }
-{
-    greater(template.fout + 1, template.rout + 1)
-}
-
-/// One more than the greatest output that templates name, 0 where there are none.
-fn templates_outs(templates: &[Template]) -> u32
-    requires { All TemplateInRange templates.now }
-    ensures value { result ≡ templates_outs templates.now }
-    ensures few { result ≤ 512 }
-{
-    let mut count = 0;
-    for template in templates {
-        count = greater(count, template_outs(template));
-    }
-    count
-}
-
-/// The templates of a mapper, none where no mapper has that number.
-fn mapper_at(mappers: &[Templates], number: u32) -> &[Template]
-    ensures templates { result.now ≡ mapper_at mappers.now number }
-    ensures outputs { All TemplateInRange result.now }
-{
-    match mappers.get(number as usize) {
-        Some(templates) => templates.as_slice(),
-        None => &[],
-    }
-}
-
 /// One more than the greatest output that a specification names, 0 where it names none.
-fn spec_outs(mappers: &[Templates], spec: &Spec) -> u32
+fn spec_outs(mappers: &Mappers, spec: &Spec) -> u32
     requires { SpecInRange spec.now }
     ensures value { result ≡ spec_outs mappers.now spec.now }
     ensures few { result ≤ 512 }
@@ -110,12 +35,12 @@ fn spec_outs(mappers: &[Templates], spec: &Spec) -> u32
         Spec::Pass(out) => *out + 1,
         Spec::Keep(fout, rout) => greater(*fout + 1, *rout + 1),
         Spec::Pattern(template) => template_outs(template),
-        Spec::Mapper(number) => templates_outs(mapper_at(mappers, *number)),
+        Spec::Mapper(number) => mappers.count(*number),
     }
 }
 
 /// One more than the greatest output that specifications name, 0 where they name none.
-fn rewriter_outs(mappers: &[Templates], specs: &[Spec]) -> u32
+fn rewriter_outs(mappers: &Mappers, specs: &[Spec]) -> u32
     requires { All SpecInRange specs.now }
     ensures value { result ≡ rewriter_outs mappers.now specs.now }
     ensures few { result ≤ 512 }
@@ -130,7 +55,7 @@ fn rewriter_outs(mappers: &[Templates], specs: &[Spec]) -> u32
 /// How many outputs an element has. Those of a `PaintSwitch` are as many as `wired`, one more than the number of
 /// its greatest output that is wired; those of a filter, a route table or a rewriter end with the greatest that
 /// its arguments and the templates of the mappers that they name have.
-pub fn output_count(mappers: &[Templates], kind: &Kind, wired: u32) -> u32
+pub fn output_count(mappers: &Mappers, kind: &Kind, wired: u32) -> u32
     ensures { result ≡ output_count mappers.now kind.now wired }
 {
     match kind {
@@ -156,71 +81,77 @@ pub fn may_be_open(kind: &Kind, out: u32) -> bool
     }
 }
 
-/// Whether a template sends packets in a flow's direction to an output.
-fn has_fout(templates: &[Template], out: u32) -> bool
-    ensures { result ≡ list_any (λ template. template.fout == out) templates.now }
-{
-    templates.iter().any(|template| template.fout == out)
-}
-
-/// Whether a template sends replies to an output.
-fn has_rout(templates: &[Template], out: u32) -> bool
-    ensures { result ≡ list_any (λ template. template.rout == out) templates.now }
-{
-    templates.iter().any(|template| template.rout == out)
-}
-
 /// Whether packets of a flow that enters by an input with a specification leave by an output.
-fn is_forward_out(mappers: &[Templates], spec: &Spec, out: u32) -> bool
+fn is_forward_out(mappers: &Mappers, spec: &Spec, out: u32) -> bool
     ensures { result ≡ is_in out (forward_outs mappers.now spec.now) }
 {
     match spec {
         Spec::Drop | Spec::Pass(_) => false,
         Spec::Keep(fout, _) => *fout == out,
         Spec::Pattern(template) => template.fout == out,
-        Spec::Mapper(number) => has_fout(mapper_at(mappers, *number), out),
+        Spec::Mapper(number) => mappers.has_forward(*number, out),
     }
 }
 
-/// Whether replies to a flow that enters by an input with a specification leave by an output.
-fn has_reply_out(mappers: &[Templates], spec: &Spec, out: u32) -> bool
-    ensures { result ≡ is_in out (reply_outs mappers.now spec.now) }
+/// Adds the outputs by which replies to a flow leave that enters by an input with a specification.
+fn add_replies(mappers: &Mappers, spec: &Spec, replies: &mut Outs)
+    requires { SpecInRange spec.now }
+    ensures { (out : ℕ) → get_or replies.new out false ≡ (get_or replies.old out false || is_in out (reply_outs mappers.now spec.now)) }
 {
     match spec {
-        Spec::Drop | Spec::Pass(_) => false,
-        Spec::Keep(_, rout) => *rout == out,
-        Spec::Pattern(template) => template.rout == out,
-        Spec::Mapper(number) => has_rout(mapper_at(mappers, *number), out),
+        Spec::Drop | Spec::Pass(_) => {}
+        Spec::Keep(_, rout) => replies.add(*rout),
+        Spec::Pattern(template) => replies.add(template.rout),
+        Spec::Mapper(number) => mappers.add_replies(*number, replies),
     }
 }
 
-/// Whether replies to a flow of a rewriter leave by an output.
-fn is_reply_out(mappers: &[Templates], specs: &[Spec], out: u32) -> bool
-    ensures { result ≡ is_reply_out mappers.now specs.now out }
+/// The outputs by which replies to flows of a rewriter leave.
+fn rewriter_replies(alloc: Global, mappers: &Mappers, specs: &[Spec]) -> Result<Outs, AllocError>
+    requires { All SpecInRange specs.now }
+    ensures { IfOk result (IsTable (is_reply_out mappers.now specs.now)) }
 {
-    specs.iter().any(|spec| has_reply_out(mappers, spec, out))
+    let mut replies = Outs::none(alloc)?;
+    let mut rest = specs;
+    while let [spec, after @ ..] = rest {
+        add_replies(mappers, spec, &mut replies);
+        rest = after;
+    }
+    Ok(replies)
 }
 
-/// Whether a packet that enters a rewriter by an input with a specification can leave it by an output.
-fn spec_leads(mappers: &[Templates], specs: &[Spec], out: u32, spec: &Spec) -> bool
-    ensures { result ≡ spec_leads mappers.now specs.now out spec.now }
+/// The outputs by which replies to flows of an element leave, none where it is no rewriter.
+pub fn replies_of(alloc: Global, mappers: &Mappers, kind: &Kind) -> Result<Outs, AllocError>
+    ensures { IfOk result (IsReplyTable mappers.now kind.now) }
+{
+    match kind {
+        Kind::IPRewriter(specs) => rewriter_replies(alloc, mappers, specs.as_slice()),
+        _ => Outs::none(alloc),
+    }
+}
+
+/// Whether a packet that enters a rewriter by an input with a specification can leave it by an output, where it is
+/// told whether replies leave by it.
+fn spec_leads(mappers: &Mappers, is_reply_out: bool, out: u32, spec: &Spec) -> bool
+    ensures { result ≡ led mappers.now is_reply_out out spec.now }
 {
     match spec {
-        Spec::Drop => is_reply_out(mappers, specs, out),
-        Spec::Pass(own) => *own == out || is_reply_out(mappers, specs, out),
+        Spec::Drop => is_reply_out,
+        Spec::Pass(own) => *own == out || is_reply_out,
         _ => is_forward_out(mappers, spec, out),
     }
 }
 
 /// Whether a packet that enters an element by an input can leave it by an output: at a rewriter by the outputs of
 /// that input's flows, or, where none begins there, by those of replies and the input's own; at any other element
-/// by all outputs that it has.
-pub fn leads(mappers: &[Templates], kind: &Kind, input: u32, out: u32) -> bool
+/// by all outputs that it has. The replies are those of `replies_of` for that element.
+pub fn leads(mappers: &Mappers, replies: &Outs, kind: &Kind, input: u32, out: u32) -> bool
+    requires { IsReplyTable mappers.now kind.now replies.now }
     ensures { result ≡ leads mappers.now kind.now input out }
 {
     match kind {
         Kind::IPRewriter(specs) => match specs.as_slice().get(input as usize) {
-            Some(spec) => spec_leads(mappers, specs.as_slice(), out, spec),
+            Some(spec) => spec_leads(mappers, replies.has(out), out, spec),
             None => false,
         },
         _ => true,

@@ -16,6 +16,8 @@ use Rattle.mt_wiring.specs.Pushes.{HasPushed, IsAmong, IsLowest, lower}
 use Rattle.mt_wiring.specs.Numbers.{Grows}
 use Rattle.mt_wiring.specs.States.{state_at, EntersBy, GoesOnBy, ClashesAt}
 use Rattle.mt_wiring.proofs.Pushing.{some_same, pushed_more, pushed_all, lowest_as, lowest_more}
+use Rattle.mt_wiring.specs.Leaving.{LeaveAll}
+use Rattle.mt_wiring.proofs.WiresLeaving.{AtPlace, regrouped}
 use Rattle.mt_wiring.proofs.Counts.{at_most, apart_of, member, contained, there}
 use Rattle.mt_wiring.proofs.PortNumbers.{push_get}
 
@@ -187,12 +189,26 @@ entries_all b wires at states le h s =
     (λ c. elim (p.only s c) [ inl none ↦ absurd (let lt = none.1 in omega (arith, lt)) | inr m ↦ m ], p.all s)
 
 -- packets go on by one wire more
-pub onward_step : (b : Behavior) (wires : List Wire) (from : State) (at : ℕ) (d : Wire) (old here new : List State) (t left : Bool) (l : Layer) → at < length wires → t ≡ true → t ≡ b.takes from.element from.layer
-    → l ≡ b.behind from.element from.layer (get_or wires at d).out → (left ≡ true) ↔ IsLeft b.leads (from.element, from.input) (get_or wires at d)
-    → HasPushed old here (IsAmong (λ k. GoesOnBy b from) wires at) → HasPushed here new (λ s. (left ≡ true) × (state_at (get_or wires at d) l ≡ s)) → HasPushed old new (IsAmong (λ k. GoesOnBy b from) wires (at + 1))
-onward_step b wires from at d old here new t left l lt taken takes e is h n =
-    pushed_more (λ k. GoesOnBy b from) wires at (get_or wires at d) old here new (λ s. (left ≡ true) × (state_at (get_or wires at d) l ≡ s)) (slice_get-get_or wires at d lt)
-    (λ s. (λ p. (sym takes ∙ taken, is.0 p.0, ap (state_at (get_or wires at d)) (sym e) ∙ p.1), λ p. (is.1 p.1, ap (state_at (get_or wires at d)) e ∙ p.2))) h n
+pub onward_step : (b : Behavior) (wires : List Wire) (from : State) (places : List ℕ) (at d : ℕ) (w : Wire) (old here new : List State) (t left : Bool) (l : Layer) → at < length places → slice_get wires (get_or places at d) ≡ Some w
+    → t ≡ true → t ≡ b.takes from.element from.layer → l ≡ b.behind from.element from.layer w.out → (left ≡ true) ↔ IsLeft b.leads (from.element, from.input) w
+    → HasPushed old here (IsAmong (AtPlace (λ k. GoesOnBy b from) wires) places at) → HasPushed here new (λ s. (left ≡ true) × (state_at w l ≡ s)) → HasPushed old new (IsAmong (AtPlace (λ k. GoesOnBy b from) wires) places (at + 1))
+onward_step b wires from places at d w old here new t left l lt wire_is taken takes e is h n =
+    pushed_more (AtPlace (λ k. GoesOnBy b from) wires) places at (get_or places at d) old here new (λ s. (left ≡ true) × (state_at w l ≡ s)) (slice_get-get_or places at d lt) same h n
+  where
+    same : (s : State) → ((left ≡ true) × (state_at w l ≡ s)) ↔ AtPlace (λ k. GoesOnBy b from) wires at (get_or places at d) s
+    same s = (
+      λ p. (w, wire_is, (sym takes ∙ taken, is.0 p.0, ap (state_at w) (sym e) ∙ p.1)),
+      λ q.
+          let wire : q.0 ≡ w = some_same q.0 w (sym q.1 ∙ wire_is) in
+          let r : GoesOnBy b from w s = subst (λ (x : Wire). GoesOnBy b from x s) wire q.2 in
+          (is.1 r.1, ap (state_at w) e ∙ r.2),
+    )
+
+-- those by all wires that leave the element
+pub onward_all : (b : Behavior) (wires : List Wire) (from : State) (places : List ℕ) (at : ℕ) (old new : List State) → length places ≤ at → LeaveAll wires from.element places
+    → HasPushed old new (IsAmong (AtPlace (λ k. GoesOnBy b from) wires) places at) → HasPushed old new (IsAmong (λ k. GoesOnBy b from) wires (length wires))
+onward_all b wires from places at old new le leave h =
+    regrouped (λ k. GoesOnBy b from) wires from.element places old new leave (λ k w s r. r.1.0) (pushed_all (AtPlace (λ k. GoesOnBy b from) wires) places at old new le h)
 
 -- a state of a layer that is not taken
 pub clash_step : (b : Behavior) (states : List State) (at : ℕ) (d : State) (t : Bool) (old new : Option ℕ) → at < length states → t ≡ b.takes (get_or states at d).element (get_or states at d).layer

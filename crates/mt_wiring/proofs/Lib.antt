@@ -5,3 +5,4 @@ pub mod RingsFound
 pub mod LayersFound
 pub mod Ranks
 mod Rows
+pub mod WiresLeaving

@@ -8,7 +8,9 @@ use Rattle.mt_wiring.specs.Ways.{target, IsLeft}
 use Rattle.mt_wiring.specs.Pushes.{HasPushed, IsAmong}
 use Rattle.mt_wiring.specs.Numbers.{StandsAt, AreApart, Grows, AreTargets, IsLink, IsLinkBy}
 use Rattle.mt_wiring.proofs.Pushing.{some_same, pushed_more, pushed_all}
+use Rattle.mt_wiring.specs.Leaving.{LeaveAll}
 use Rattle.mt_wiring.proofs.Counts.{member, contained, there}
+use Rattle.mt_wiring.proofs.WiresLeaving.{AtPlace, regrouped}
 
 other : {K : Type 0} (eq : K → K → Bool) → ((x : K) → eq x x ≡ true) → (x : K) (xs : List K) → AllByRecursion (λ y. eq x y ≡ false) xs → (j : ℕ) (p : K) → x ≡ p → slice_get xs j ≡ Some p → ⊥
 other eq own x [] h j p e b = let q : None ≡ Some p = b in cc
@@ -106,23 +108,28 @@ module _ (leads : ℕ → ℕ → ℕ → Bool) (wires : List Wire) (ports : Lis
           })
 
 -- the link by the wire at a place
-pub link_step : (leads : ℕ → ℕ → ℕ → Bool) (wires : List Wire) (targets : List ℕ) (number : ℕ) (port : ℕ × ℕ) (at : ℕ) (d : Wire) (old here new : List (ℕ × ℕ)) → at < length wires → length targets ≡ length wires
-    → HasPushed old here (IsAmong (IsLinkBy leads targets number port) wires at) → HasPushed here new (λ l. IsLeft leads port (get_or wires at d) × ((number, get_or targets at 0) ≡ l))
-    → HasPushed old new (IsAmong (IsLinkBy leads targets number port) wires (at + 1))
-link_step leads wires targets number port at d old here new lt len h n =
-    pushed_more (IsLinkBy leads targets number port) wires at (get_or wires at d) old here new (λ l. IsLeft leads port (get_or wires at d) × ((number, get_or targets at 0) ≡ l)) (slice_get-get_or wires at d lt) same h n
+pub link_step : (leads : ℕ → ℕ → ℕ → Bool) (wires : List Wire) (targets : List ℕ) (number : ℕ) (port : ℕ × ℕ) (places : List ℕ) (at d : ℕ) (w : Wire) (n : ℕ) (old here new : List (ℕ × ℕ)) → at < length places
+    → slice_get wires (get_or places at d) ≡ Some w → slice_get targets (get_or places at d) ≡ Some n → HasPushed old here (IsAmong (AtPlace (IsLinkBy leads targets number port) wires) places at)
+    → HasPushed here new (λ l. IsLeft leads port w × ((number, n) ≡ l)) → HasPushed old new (IsAmong (AtPlace (IsLinkBy leads targets number port) wires) places (at + 1))
+link_step leads wires targets number port places at d w n old here new lt wire_is is h more =
+    pushed_more (AtPlace (IsLinkBy leads targets number port) wires) places at (get_or places at d) old here new (λ l. IsLeft leads port w × ((number, n) ≡ l)) (slice_get-get_or places at d lt) same h more
   where
-    is : slice_get targets at ≡ Some (get_or targets at 0)
-    is = slice_get-get_or targets at 0 (omega (arith, lt, len))
-
-    same : (l : ℕ × ℕ) → (IsLeft leads port (get_or wires at d) × ((number, get_or targets at 0) ≡ l)) ↔ IsLinkBy leads targets number port at (get_or wires at d) l
+    same : (l : ℕ × ℕ) → (IsLeft leads port w × ((number, n) ≡ l)) ↔ AtPlace (IsLinkBy leads targets number port) wires at (get_or places at d) l
     same l = (
-      λ p. (is ∙ ap (λ (x : ℕ × ℕ). Some x.1) p.1, p.0, ap (λ (x : ℕ × ℕ). x.0) p.1),
+      λ p. (w, wire_is, (is ∙ ap (λ (x : ℕ × ℕ). Some x.1) p.1, p.0, ap (λ (x : ℕ × ℕ). x.0) p.1)),
       λ q.
-          let e : get_or targets at 0 ≡ l.1 = some_same (get_or targets at 0) l.1 (sym is ∙ q.0) in
-          let f : (number, get_or targets at 0) ≡ (l.0, l.1) = ap (λ n. (n, get_or targets at 0)) q.2 ∙ ap (λ n. (l.0, n)) e in
-          (q.1, f),
+          let wire : q.0 ≡ w = some_same q.0 w (sym q.1 ∙ wire_is) in
+          let r : IsLinkBy leads targets number port (get_or places at d) w l = subst (λ (x : Wire). IsLinkBy leads targets number port (get_or places at d) x l) wire q.2 in
+          let e : n ≡ l.1 = some_same n l.1 (sym is ∙ r.0) in
+          let f : (number, n) ≡ (l.0, l.1) = ap (λ m. (m, n)) r.2 ∙ ap (λ m. (l.0, m)) e in
+          (r.1, f),
     )
+
+-- those by all wires that leave the element
+pub links_from : (leads : ℕ → ℕ → ℕ → Bool) (wires : List Wire) (targets : List ℕ) (number : ℕ) (port : ℕ × ℕ) (places : List ℕ) (at : ℕ) (old new : List (ℕ × ℕ)) → length places ≤ at → LeaveAll wires port.0 places
+    → HasPushed old new (IsAmong (AtPlace (IsLinkBy leads targets number port) wires) places at) → HasPushed old new (IsAmong (IsLinkBy leads targets number port) wires (length wires))
+links_from leads wires targets number port places at old new le leave h =
+    regrouped (IsLinkBy leads targets number port) wires port.0 places old new leave (λ k w l r. r.1.0) (pushed_all (AtPlace (IsLinkBy leads targets number port) wires) places at old new le h)
 
 -- the links from the port at a place
 abbrev pub AreFrom : (ℕ → ℕ → ℕ → Bool) → List Wire → List ℕ → ℕ → ℕ × ℕ → ℕ × ℕ → Type 0

@@ -2,16 +2,19 @@
 ghost use Rattle.std.specs.Prelude.{◌≡◌, ◌↔◌, ℕ, ◌<◌, true, length, IfOk, OnOk, IfSome, IfNone, Contains};
 ghost use Rattle.mt_wiring.specs.Ways.{Reached, Clashes};
 ghost use Rattle.mt_wiring.specs.Pushes.{HasPushed, IsAmong, IsLowest};
+ghost use Rattle.mt_wiring.specs.Leaving.{AreLeaving};
 ghost use Rattle.mt_wiring.specs.Numbers.{Grows};
 ghost use Rattle.mt_wiring.specs.States.{EntersBy, GoesOnBy, ClashesAt};
 ghost use Rattle.mt_wiring.specs.declared.layers.State.{State as TheState};
 
 use crate::behavior::Elements;
+use crate::leaving::{leaving, places_of, wire_at};
 use crate::links::is_left;
 use crate::lowest::lower;
 use indexmap::IndexSet;
 use mt_graph::Wire;
 use mt_packet::Layer;
+use mt_reach::Targets;
 use std::alloc::{AllocError, Global};
 
 /// A packet of a layer comes to an input of an element. No layer is hashed, since `Layer` has no hash.
@@ -56,21 +59,24 @@ fn entered<E: Elements>(
     Ok(states)
 }
 
-// Adds the states in which packets go on from a state.
+// Adds the states in which packets go on from a state, by the wires that leave its element.
 fn push_onward<E: Elements>(
     elements: &E,
     wires: &[Wire],
+    leaving: &[Targets],
     from: State,
     states: &mut IndexSet<State>,
 ) -> Result<(), AllocError>
+    requires { AreLeaving wires.now leaving.now }
     ensures pushed { OnOk result (HasPushed states.old.keys states.new.keys (IsAmong (λ k. GoesOnBy (E.behavior elements.now) from) wires.now (length wires.now))) }
     ensures grows { OnOk result (Grows states.old.keys states.new.keys) }
 {
     if !elements.takes(from.element, from.layer) {
         return Ok(());
     }
-    for at in 0..wires.len() {
-        let wire = wires[at];
+    let places = places_of(leaving, from.element);
+    for at in 0..places.len() {
+        let wire = wire_at(wires, places[at]);
         let state = State {
             element: wire.to,
             input: wire.into,
@@ -93,11 +99,12 @@ fn states_reached<E: Elements>(
 ) -> Result<IndexSet<State>, AllocError>
     ensures { IfOk result (λ v. (s : TheState) → Contains v.keys s ↔ Reached (E.behavior elements.now) wires.now (s.element, s.input) s.layer) }
 {
+    let leaving = leaving(alloc, wires)?;
     let mut states = entered(alloc, elements, wires)?;
     let mut at = 0;
     while at < states.len() {
         let state = states.as_slice()[at];
-        push_onward(elements, wires, state, &mut states)?;
+        push_onward(elements, wires, &leaving, state, &mut states)?;
         at += 1;
     }
     Ok(states)
@@ -117,7 +124,7 @@ fn lowest_refusing<E: Elements>(elements: &E, states: &[State]) -> Option<u32>
 }
 
 /// The lowest element that is reached at a layer which it does not take. It takes time in the number of pairs of an
-/// input port and a layer that are reached, times the number of wires.
+/// input port and a layer that are reached, each times the number of wires that leave its element.
 pub fn lowest_clash<E: Elements>(
     alloc: Global,
     elements: &E,

@@ -5,6 +5,7 @@
 mod behavior;
 pub mod laws;
 mod layers;
+mod leaving;
 mod links;
 mod lowest;
 mod ports;

@@ -6,6 +6,7 @@ ghost use Rattle.mt_wiring.specs.Pushes.{IsAmong, IsLowest};
 ghost use Rattle.mt_wiring.specs.Numbers.{IsRingAt};
 
 use crate::behavior::Elements;
+use crate::leaving::leaving;
 use crate::links::links_of;
 use crate::lowest::lower;
 use crate::ports::ports_of;
@@ -65,7 +66,8 @@ pub fn lowest_on_ring<E: Elements>(
     ensures lowest { IfOk result (λ lowest. IfSome lowest (λ element. (lower : ℕ) → lower < element → OnRing (E.behavior elements.now).leads wires.now lower → ⊥)) }
 {
     let ports = ports_of(alloc, wires)?;
-    let links = links_of(alloc, elements, wires, &ports)?;
+    let leaving = leaving(alloc, wires)?;
+    let links = links_of(alloc, elements, wires, &leaving, &ports)?;
     let graph = graph_of(alloc, ports.keys.len(), &links)?;
     lowest_returning(alloc, &graph, ports.keys.as_slice())
 }

@@ -1,4 +1,4 @@
-use Rattle.std.proofs.Common.{◌≡◌, ◌∙◌, ◌+◌, arith}
+use Rattle.std.proofs.Common.{◌∙◌, ◌+◌, arith}
 use Rattle.mt_elements.proofs.CountsRaised.{ArrivalsTo, arrivals_begin, arrivals_more}
 use Rattle.mt_elements.proofs.chain.arrivals_of.Goals as goal
 

@@ -1,4 +1,4 @@
-use Rattle.std.proofs.Common.{◌≡◌, ◌∙◌, refl, sym, arith}
+use Rattle.std.proofs.Common.{◌∙◌, refl, sym, arith}
 use Rattle.mt_elements.specs.ChainState.{is_entry}
 use Rattle.mt_lists.proofs.Positions.{found, missing}
 use Rattle.mt_elements.proofs.Looked.{got_at}

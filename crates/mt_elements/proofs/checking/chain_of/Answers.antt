@@ -1,6 +1,5 @@
-use Rattle.std.proofs.Common.{◌≡◌, subst, List}
+use Rattle.std.proofs.Common.{subst, List}
 use Rattle.mt_graph.specs.declared.Element.{Element}
-use Rattle.mt_elements.specs.declared.fault.ChainFault.{ChainFault}
 use Rattle.mt_elements.specs.Described.{IsChainOf}
 use Rattle.mt_elements.specs.Refused.{IsRefused, IsRefusedChain, refused}
 use Rattle.mt_elements.specs.Told.{Tells}

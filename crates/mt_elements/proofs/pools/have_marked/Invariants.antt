@@ -1,6 +1,6 @@
 use Rattle.std.proofs.Common.{◌≡◌, false, length, get_or}
 use Rattle.std.specs.List.{list_any, flat_map}
-use Rattle.mt_elements.specs.Overlaps.{pool_number, spec_numbers}
+use Rattle.mt_elements.specs.Overlaps.{spec_numbers}
 use Rattle.mt_elements.proofs.pools.have_marked.Given as goal
 
 abbrev pub invariant-loop-rest : goal.invariant-loop-rest

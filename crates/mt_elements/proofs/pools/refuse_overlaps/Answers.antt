@@ -1,4 +1,4 @@
-use Rattle.std.proofs.Common.{◌≡◌, ◌↔◌, ◌∙◌, ap, arith, length, subst, true}
+use Rattle.std.proofs.Common.{◌≡◌, ap, arith, length, subst}
 use Rattle.mt_kinds.specs.declared.rewriter.Pool.{Pool}
 use Rattle.std.proofs.Common.{List, Bool, false, get_or}
 use Rattle.std.specs.List.{list_any}

@@ -1,4 +1,4 @@
-use Rattle.std.proofs.Common.{◌≡◌, ◌∙◌, ap, length, map, arith}
+use Rattle.std.proofs.Common.{◌∙◌, ap, length, map, arith}
 use Rattle.mt_elements.proofs.TableBuilt.{table_more, table_closed, row_at}
 use Rattle.mt_elements.proofs.WiresTold.{map_push}
 use Rattle.mt_elements.proofs.table.table_of.Goals as goal

@@ -1,4 +1,4 @@
-use Rattle.std.proofs.Common.{◌≡◌, ◌∙◌, ap, length, ℕ, List, arith}
+use Rattle.std.proofs.Common.{◌∙◌, ap, length, List, arith}
 use Rattle.mt_graph.specs.declared.Wire.{Wire}
 use Rattle.mt_elements.specs.ChainState.{wired_of}
 use Rattle.mt_elements.proofs.CountsRaised.{counts_push}

@@ -1,4 +1,4 @@
-use Rattle.std.proofs.Common.{◌≡◌, ◌∙◌, arith}
+use Rattle.std.proofs.Common.{◌∙◌, arith}
 use Rattle.mt_elements.proofs.CountsRaised.{counts_step, counts_end}
 use Rattle.mt_elements.proofs.wires.wired_counts.Goals as goal
 

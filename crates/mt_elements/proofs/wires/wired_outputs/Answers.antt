@@ -1,4 +1,4 @@
-use Rattle.std.proofs.Common.{◌≡◌, ◌∙◌, ◌<◌, ap, refl, sym, subst, ℕ, not, Bool, true, false, List, length, get_or, slice_get, Some, None, arith, rules}
+use Rattle.std.proofs.Common.{◌≡◌, ◌∙◌, ◌<◌, ap, refl, sym, subst, ℕ, not, Bool, true, false, List, length, get_or, slice_get, Some, arith}
 use Rattle.std.proofs.lemmas.Option.{slice_get-get_or}
 use Rattle.mt_graph.specs.declared.Wire.{Wire}
 use Rattle.mt_elements.specs.Told.{IsMiswired, Tells}

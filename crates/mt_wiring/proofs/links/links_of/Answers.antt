@@ -9,4 +9,4 @@ loop-number-preserved g c =
 pub returns : goal.returns
 returns g c =
     links_all (g.E.Elements.behavior c.args.elements.now).leads c.args.wires.now c.args.ports.now.targets.items c.as_slice-keys.result.now c.args.ports.now.keys.keys c.loop-number.number c.loop-number.links.items
-    c.as_slice-keys.ensures.keys c.loop-number-test.false c.requires c.loop-number.invariant
+    c.as_slice-keys.ensures.keys c.loop-number-test.false c.requires.targets c.loop-number.invariant

@@ -1,4 +1,4 @@
-use Rattle.std.proofs.Common.{◌≤◌, inl, inr, subst, length, arith}
+use Rattle.std.proofs.Common.{◌≤◌, inl, inr, subst, length}
 use Rattle.std.proofs.lemmas.Bool.{cases_lt}
 use Rattle.mt_elements.specs.ChainState.{ChainState}
 use Rattle.mt_elements.proofs.chain.Chain.devices.Goals as goal

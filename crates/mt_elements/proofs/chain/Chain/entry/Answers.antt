@@ -1,4 +1,4 @@
-use Rattle.std.proofs.Common.{◌≡◌, ◌∙◌, ap}
+use Rattle.std.proofs.Common.{◌∙◌, ap}
 use Rattle.mt_elements.specs.ChainState.{ChainState, entry_of}
 use Rattle.mt_elements.proofs.ChainNext.{no_entry}
 use Rattle.mt_elements.proofs.Looked.{got, gone}

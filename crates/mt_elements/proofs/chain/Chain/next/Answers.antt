@@ -1,4 +1,4 @@
-use Rattle.std.proofs.Common.{◌≡◌, ◌∙◌, ap}
+use Rattle.std.proofs.Common.{◌∙◌, ap}
 use Rattle.mt_elements.specs.ChainState.{ChainState, next_of}
 use Rattle.mt_elements.proofs.ChainNext.{no_row, row_ends, row_leads}
 use Rattle.mt_elements.proofs.Looked.{got, gone, got_map, gone_map}

@@ -1,7 +1,7 @@
 use Rattle.std.proofs.Common.{◌≡◌, ◌+◌, ◌≤◌, drop}
 use Rattle.std.specs.Prelude.{max}
 use Rattle.mt_kinds.specs.Outputs.{greatest}
-use Rattle.mt_kinds.proofs.ports.route_outs.Given as goal
+use Rattle.mt_kinds.proofs.counts.route_outs.Given as goal
 
 abbrev pub invariant-loop-hop : goal.invariant-loop-hop
 invariant-loop-hop l = record {

@@ -1,7 +1,7 @@
 use Rattle.std.proofs.Common.{◌≡◌, ◌≤◌, drop}
 use Rattle.std.specs.Prelude.{max}
 use Rattle.mt_kinds.specs.Outputs.{greatest, template_outs}
-use Rattle.mt_kinds.proofs.ports.templates_outs.Given as goal
+use Rattle.mt_kinds.proofs.counts.templates_outs.Given as goal
 
 abbrev pub invariant-loop-template : goal.invariant-loop-template
 invariant-loop-template l = record {

@@ -3,7 +3,7 @@ use Rattle.std.specs.Prelude.{None}
 use Rattle.mt_kinds.specs.declared.rewriter.SourcePort.TheVariants.{Same}
 use Rattle.mt_kinds.specs.Outputs.{template_outs}
 use Rattle.mt_kinds.proofs.Greatest.{greatest_more, greatest_done}
-use Rattle.mt_kinds.proofs.ports.templates_outs.Goals as goal
+use Rattle.mt_kinds.proofs.counts.templates_outs.Goals as goal
 
 pub loop-template-preserved : goal.loop-template-preserved
 loop-template-preserved c = record {

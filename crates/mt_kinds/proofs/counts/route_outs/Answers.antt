@@ -2,7 +2,7 @@ use Rattle.std.proofs.Common.{◌+◌, refl, arith}
 use Rattle.std.specs.Prelude.{None}
 use Rattle.mt_kinds.specs.declared.hop.Hop.{Hop}
 use Rattle.mt_kinds.proofs.Greatest.{greatest_more, greatest_done}
-use Rattle.mt_kinds.proofs.ports.route_outs.Goals as goal
+use Rattle.mt_kinds.proofs.counts.route_outs.Goals as goal
 
 pub loop-hop-preserved : goal.loop-hop-preserved
 loop-hop-preserved c = record {

@@ -1,7 +1,7 @@
 use Rattle.std.proofs.Common.{◌≡◌, ◌≤◌, drop}
 use Rattle.std.specs.Prelude.{max}
 use Rattle.mt_kinds.specs.Outputs.{greatest, action_outs}
-use Rattle.mt_kinds.proofs.ports.filter_outs.Given as goal
+use Rattle.mt_kinds.proofs.counts.filter_outs.Given as goal
 
 abbrev pub invariant-loop-rule : goal.invariant-loop-rule
 invariant-loop-rule l = record {

@@ -2,7 +2,7 @@ use Rattle.std.proofs.Common.{◌∙◌, ap, arith}
 use Rattle.mt_kinds.specs.declared.rule.Rule.{Rule}
 use Rattle.mt_kinds.specs.Outputs.{action_outs}
 use Rattle.mt_kinds.proofs.Greatest.{greatest_more, greatest_done}
-use Rattle.mt_kinds.proofs.ports.filter_outs.Goals as goal
+use Rattle.mt_kinds.proofs.counts.filter_outs.Goals as goal
 
 pub loop-rule-preserved : goal.loop-rule-preserved
 loop-rule-preserved c = record {
