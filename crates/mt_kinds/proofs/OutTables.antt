@@ -1,15 +1,14 @@
 -- Tables of outputs as loops make them.
-use Rattle.std.proofs.Common.{◌≡◌, ℕ, zero, suc, ◌+◌, ◌<◌, ◌≤◌, ◌⊎◌, inl, inr, Bool, true, false, List, [], ◌∷◌, ◌++◌, length, get_or, slice_get, Some, None, replicate, refl, sym, ap, ◌∙◌, subst, arith}
+use Rattle.std.proofs.Common.{◌≡◌, ℕ, zero, suc, ◌+◌, ◌≤◌, ◌⊎◌, inl, inr, Bool, true, false, List, [], ◌∷◌, ◌++◌, length, get_or, slice_get, Some, replicate, refl, sym, ap, ◌∙◌, subst, arith}
 use Rattle.std.specs.Prelude.{◌==◌, ◌||◌}
-use Rattle.std.specs.List.{list_any}
 use Rattle.std.proofs.lemmas.Bool.{cases_lt}
 use Rattle.std.proofs.lemmas.List.{length-append, get_or-replicate, get_or_past, length-replicate}
-use Rattle.std.proofs.lemmas.Option.{same_Some, none-some, slice_get_within}
+use Rattle.std.proofs.lemmas.Option.{same_Some, none-some}
 use Rattle.mt_kinds.specs.declared.mappers.MapperOuts.{MapperOuts}
 use Rattle.mt_kinds.specs.declared.rewriter.Spec.{Spec}
 use Rattle.mt_kinds.specs.declared.rewriter.Spec.TheVariants as spec
 use Rattle.mt_kinds.specs.declared.rewriter.Template.{Template}
-use Rattle.mt_kinds.specs.Ports.{mapper_at, templates_at, is_in, forward_outs, is_reply_out, spec_leads}
+use Rattle.mt_kinds.specs.Ports.{mapper_at, templates_at, is_in, is_reply_out, spec_leads}
 use Rattle.mt_kinds.specs.OutTables.{AreOutsOf, AreTables, led}
 
 -- ---- truth values

@@ -1,7 +1,6 @@
 -- A packet leaves a rewriter by an output that it has.
-use Rattle.std.proofs.Common.{◌≡◌, ℕ, zero, suc, ◌+◌, ◌<◌, ◌≤◌, Bool, true, false, List, [], ◌∷◌, map, refl, sym, ap, subst, arith}
+use Rattle.std.proofs.Common.{◌≡◌, ℕ, zero, suc, ◌+◌, ◌<◌, Bool, true, false, List, [], ◌∷◌, map, refl, sym, subst, arith}
 use Rattle.std.specs.Prelude.{◌==◌, ◌||◌, max, Option, Some, None, slice_get}
-use Rattle.std.specs.List.{list_any}
 use Rattle.std.proofs.Math.Nat.{le-max_left, le-max_right}
 use Rattle.std.proofs.lemmas.Bool.{false≢true, eqb-true}
 use Rattle.std.proofs.lemmas.Option.{same_Some, none-some}
@@ -10,7 +9,7 @@ use Rattle.mt_kinds.specs.declared.rewriter.Spec.{Spec}
 use Rattle.mt_kinds.specs.declared.rewriter.Spec.TheVariants as spec
 use Rattle.mt_kinds.specs.declared.rewriter.Template.{Template}
 use Rattle.mt_kinds.specs.Outputs.{greatest, template_outs, templates_outs}
-use Rattle.mt_kinds.specs.Ports.{mapper_at, forward_outs, reply_outs, own_outs, spec_outs, rewriter_outs, is_in, is_reply_out, spec_leads, if_there, leads}
+use Rattle.mt_kinds.specs.Ports.{mapper_at, forward_outs, reply_outs, spec_outs, rewriter_outs, is_in, is_reply_out, spec_leads, if_there, leads}
 
 one_of : {P : Type 0} (a b : Bool) → (a || b) ≡ true → (a ≡ true → P) → (b ≡ true → P) → P
 one_of true b h first second = first h

@@ -1,9 +1,8 @@
 -- The arguments of rewriters, mappers and devices are those that are spelled so.
 use Rattle.std.proofs.Common.{◌≡◌, ◌∙◌, refl, sym, ap, subst, ℕ, suc, Bool, true, false, List, [], ◌∷◌, All, arith}
 use Rattle.std.specs.Prelude.{◌↔◌, ◌&&◌, ◌==◌, if◌then◌else◌, codes, Option, Some, None, option_map}
-use Rattle.std.specs.List.{join_with_byte, list_all}
+use Rattle.std.specs.List.{list_all}
 use Rattle.std.specs.Str.{bytes_eq}
-use Rattle.std.proofs.lemmas.Slice.Eq.{bytes_eq-Decides}
 use Rattle.std.proofs.lemmas.Bool.{false≢true, eqb-true}
 use Rattle.std.proofs.lemmas.Option.{option_and_then_some, cond_some, same_Some, none-some}
 use Rattle.std.proofs.lemmas.List.Elements.{All-nil, All-cons}
@@ -12,7 +11,7 @@ use Rattle.mt_lists.specs.Cuts.{HasNo}
 use Rattle.mt_lists.proofs.Bools.{and_first, and_second}
 use Rattle.mt_text.specs.Number.{number_up_to}
 use Rattle.mt_text.specs.Address.{ipv4_address_of}
-use Rattle.mt_text.specs.Byte.{is_letter, is_name_byte, is_identifier}
+use Rattle.mt_text.specs.Byte.{is_name_byte, is_identifier}
 use Rattle.mt_kinds.specs.Arguments.{is_keyword, words_of}
 use Rattle.mt_kinds.specs.Rewriters.{address_part, port_part, source_port, template_in, behind_pattern, template_of, pass_in, keep_in, one_word, more_words, spec_in, spec_of}
 use Rattle.mt_kinds.specs.Descriptions.{device_of}

@@ -6,3 +6,4 @@ pub mod LayersFound
 pub mod Ranks
 mod Rows
 pub mod WiresLeaving
+mod RingsCleared

@@ -1,5 +1,5 @@
 -- The wires that leave an element are those at its places.
-use Rattle.std.proofs.Common.{◌≡◌, ◌↔◌, ℕ, suc, ◌+◌, ◌<◌, ◌≤◌, ◌⊎◌, inl, inr, List, [], ◌∷◌, ◌++◌, length, get_or, slice_get, Some, IfOk, refl, sym, ap, ◌∙◌, subst, arith}
+use Rattle.std.proofs.Common.{◌≡◌, ◌↔◌, ℕ, suc, ◌+◌, ◌<◌, ◌≤◌, inl, inr, List, [], ◌∷◌, ◌++◌, length, get_or, slice_get, Some, IfOk, refl, sym, ap, ◌∙◌, subst, arith}
 use Rattle.std.specs.Prelude.{Result, Ok, Err, max}
 use Rattle.std.specs.List.{Contains}
 use Rattle.std.proofs.lemmas.Bool.{cases_lt}
@@ -9,8 +9,8 @@ use Rattle.mt_graph.specs.declared.Wire.{Wire}
 use Rattle.mt_reach.specs.Reach.{targets_of, AreBetween}
 use Rattle.mt_wiring.specs.Leaving.{IsExit, LeaveAll, AreLeaving}
 use Rattle.mt_wiring.specs.Pushes.{HasPushed, IsAmong}
-use Rattle.mt_wiring.proofs.Counts.{member, contained, there}
-use Rattle.mt_wiring.proofs.Pushing.{some_same, pushed_more, pushed_all}
+use Rattle.mt_wiring.proofs.Counts.{member, contained}
+use Rattle.mt_wiring.proofs.Pushing.{some_same, pushed_more}
 
 -- ---- exits
 

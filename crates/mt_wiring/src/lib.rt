@@ -3,6 +3,7 @@
 #![tactic(auto)]
 
 mod behavior;
+mod clearing;
 pub mod laws;
 mod layers;
 mod leaving;

@@ -1,11 +1,12 @@
 //! Rings of input ports.
-ghost use Rattle.std.specs.Prelude.{◌≡◌, ◌↔◌, ℕ, ◌<◌, true, length, IfOk, IfSome, IfNone, Contains};
-ghost use Rattle.mt_reach.specs.Reach.{targets_of, AreWithin};
+ghost use Rattle.std.specs.Prelude.{◌≡◌, ◌↔◌, ℕ, ◌+◌, ◌<◌, true, length, IfOk, OnOk, IfSome, IfNone, Contains};
+ghost use Rattle.mt_reach.specs.Reach.{targets_of, AreWithin, AreBelow};
 ghost use Rattle.mt_wiring.specs.Ways.{OnRing};
 ghost use Rattle.mt_wiring.specs.Pushes.{IsAmong, IsLowest};
-ghost use Rattle.mt_wiring.specs.Numbers.{IsRingAt};
+ghost use Rattle.mt_wiring.specs.Numbers.{AreClear, IsRingAt, Returns};
 
 use crate::behavior::Elements;
+use crate::clearing::{clear_nodes, is_clear};
 use crate::leaving::leaving;
 use crate::links::links_of;
 use crate::lowest::lower;
@@ -36,26 +37,52 @@ fn leads_back(graph: &[Targets], nodes: &[usize], to: usize) -> bool
     false
 }
 
+// Whether a node that may be clear is reached from itself. `seen` has marks from searches before this one.
+fn comes_back(
+    alloc: Global,
+    graph: &[Targets],
+    clear: &[bool],
+    node: usize,
+    seen: &mut Vec<usize>,
+) -> Result<bool, AllocError>
+    requires within { AreWithin graph.now (length seen.old.items) }
+    requires start { node < length seen.old.items }
+    requires fresh { AreBelow (node + 1) seen.old.items }
+    requires clear { AreClear graph.now clear.now }
+    ensures returns { IfOk result (λ back. (back ≡ true) ↔ Returns graph.now node) }
+    ensures marks { OnOk result (AreBelow (node + 1 + 1) seen.new.items) }
+    ensures len { length seen.new.items ≡ length seen.old.items }
+{
+    if is_clear(clear, node) {
+        return Ok(false);
+    }
+    let nodes = reached(alloc, graph, node, node + 1, seen)?;
+    Ok(leads_back(graph, &nodes, node))
+}
+
 // The lowest element of ports whose nodes return to themselves.
 fn lowest_returning(
     alloc: Global,
     graph: &[Targets],
+    clear: &[bool],
     ports: &[(u32, u32)],
 ) -> Result<Option<u32>, AllocError>
-    requires { AreWithin graph.now (length ports.now) }
+    requires within { AreWithin graph.now (length ports.now) }
+    requires clear { AreClear graph.now clear.now }
     ensures { IfOk result (IsLowest (IsAmong (IsRingAt graph.now) ports.now (length ports.now))) }
 {
     let mut seen = no_marks(alloc, ports.len())?;
     let mut lowest = None;
     for number in 0..ports.len() {
-        let nodes = reached(alloc, graph, number, number + 1, &mut seen)?;
-        lowest = lower(leads_back(graph, &nodes, number), ports[number].0, lowest);
+        let back = comes_back(alloc, graph, clear, number, &mut seen)?;
+        lowest = lower(back, ports[number].0, lowest);
     }
     Ok(lowest)
 }
 
 /// The lowest element that is on a ring: a packet that entered it by one of its inputs can come to this input again. It
-/// takes time in the number of input ports that wires lead to, times the number of wires.
+/// takes time in the number of links between input ports, and where there are rings also in that number times the number of
+/// ports that lead to one.
 pub fn lowest_on_ring<E: Elements>(
     alloc: Global,
     elements: &E,
@@ -69,5 +96,6 @@ pub fn lowest_on_ring<E: Elements>(
     let leaving = leaving(alloc, wires)?;
     let links = links_of(alloc, elements, wires, &leaving, &ports)?;
     let graph = graph_of(alloc, ports.keys.len(), &links)?;
-    lowest_returning(alloc, &graph, ports.keys.as_slice())
+    let clear = clear_nodes(alloc, &graph)?;
+    lowest_returning(alloc, &graph, &clear, ports.keys.as_slice())
 }
