@@ -17,7 +17,7 @@ use Rattle.mt_pcap.specs.Sources.{Source, MergeState, names_of, all_left, IsSame
 use Rattle.mt_elements.specs.ChainState.{ChainState}
 use Rattle.mt_rewriter.specs.Mappings.{TablesState, first_tables}
 use Rattle.mt_chain.specs.Sequence.{OneBehind}
-use Rattle.metron.specs.Fates.{packet_of, sent_text}
+use Rattle.mt_chain.specs.Fates.{packet_of, sent_text}
 use Rattle.metron.specs.Serving.{Held, Outputs, AllGain, AllGainFront, OutputFault, HasInputRisen, AreFirst, HasServed, HasServedOne, HasNotServedOne, MergeCause, IsServing}
 use Rattle.metron.specs.Serving.IsServing.{all_served, input_failed, broken_off}
 use Rattle.metron.specs.declared.outcome.Fault.{Fault}

@@ -1,4 +1,3 @@
-mod Orders
 mod Outputs
 mod Served
 mod Frames

@@ -2,7 +2,6 @@
 use Rattle.std.proofs.Common.{◌≡◌, ◌≢◌, inl, inr, true, false, ℕ, ◌+◌, List, [], ◌∷◌, ◌++◌, sym, ◌∙◌, ap, subst, arith}
 use Rattle.std.specs.Prelude.{Some, None, slice_get, nat_eq, if◌then◌else◌, Result, OnErr}
 use Rattle.std.specs.List.{flat_map}
-use Rattle.std.proofs.lemmas.Grind.{flat_map-append}
 use Rattle.std.proofs.lemmas.Bool.{cases_eq}
 use Rattle.std.proofs.lemmas.Bool.Decides.{nat_tests}
 use Rattle.std.proofs.lemmas.List.{append-nil}
@@ -13,18 +12,11 @@ use Rattle.mt_pcap.specs.Text.{record_text}
 use Rattle.mt_packet.specs.declared.frame.Stamped.{Stamped}
 use Rattle.mt_chain.specs.declared.run.Fate.{Fate}
 use Rattle.mt_chain.specs.declared.run.Fate.TheVariants.{Sent}
-use Rattle.metron.specs.Fates.{records_sent, fate_text, sent_text}
+use Rattle.mt_chain.specs.Fates.{fate_text}
 use Rattle.metron.specs.Serving.{Held, Outputs, IsFile, AreFilesApart, AllGain, AllGainFront, IsSameElsewhere, OutputFault}
 use Rattle.metron.specs.declared.outcome.FileId.TheVariants as file
 use Rattle.metron.specs.declared.outcome.Fault.{Fault}
 use Rattle.metron.specs.declared.outcome.Fault.TheVariants.{Write, Memory}
-
--- ---- texts
-
-pub sent_text-push : (device : ℕ) (fates : List Fate) (fate : Fate) → sent_text device (fates ++ fate ∷ []) ≡ sent_text device fates ++ fate_text device fate
-sent_text-push device fates fate =
-    ap (flat_map record_text) (flat_map-append (records_sent device) fates (fate ∷ []) ∙ ap (λ l. flat_map (records_sent device) fates ++ l) (append-nil (records_sent device fate)))
-    ∙ flat_map-append record_text (flat_map (records_sent device) fates) (records_sent device fate)
 
 -- ---- all files
 

@@ -16,16 +16,16 @@ use Rattle.mt_pcap.specs.Text.{header_text}
 use Rattle.mt_elements.specs.ChainState.{ChainState}
 use Rattle.mt_chain.specs.Sequence.{run_each, run_all}
 use Rattle.mt_chain.specs.declared.run.Fate.{Fate}
+use Rattle.mt_chain.specs.Fates.{packets_of, sent_text, device_text}
+use Rattle.mt_chain.specs.Order.{numbers, KeepsOrder, in_order}
+use Rattle.mt_chain.specs.Laws.{all_in_turn, keeps_order}
 use Rattle.mt_command.specs.Parts.{BoundView}
-use Rattle.metron.specs.Fates.{packets_of, sent_text, device_text}
-use Rattle.metron.specs.Order.{numbers, KeepsOrder, in_order}
 use Rattle.metron.specs.Inputs.{inputs_of, outputs_of, BeginsWell, CaptureFault}
 use Rattle.metron.specs.Serving.{Held, Outputs, AllGain, AllGainFront, IsSameElsewhere, OutputFault, HasInputRisen, AreFirst, HasServed, IsServing}
 use Rattle.metron.specs.Serving.IsServing.{all_served, input_failed as served_part, broken_off as served_some}
 use Rattle.metron.specs.Causes.{State, HasRun, HasWritten, AllBegin, IsRunOf}
 use Rattle.metron.specs.Causes.IsRunOf.{capture_refused, ended, input_failed, broken_off}
 use Rattle.metron.specs.declared.outcome.Fault.{Fault}
-use Rattle.metron.proofs.Orders.{all_in_turn, keeps_order}
 use Rattle.metron.proofs.Outputs.{all_twice, all_then_front, fronts_from_same, elsewhere_twice, elsewhere_same, fault_between}
 
 -- captures that were opened begin with headers

@@ -12,11 +12,11 @@ use Rattle.std.proofs.lemmas.Option.{none-some}
 use Rattle.mt_chain.specs.Run.{Run, IsThere, run_answer, run_packet}
 use Rattle.mt_chain.specs.Sequence.{Runs, OneBehind, behind, run_each, run_all, all_taken}
 use Rattle.mt_chain.specs.declared.run.Fate.{Fate}
-use Rattle.metron.specs.Fates.{packet_of, packets_of, fate_text, sent_text}
-use Rattle.metron.specs.Order.{numbers}
+use Rattle.mt_chain.specs.Fates.{packet_of, packets_of, fate_text, sent_text}
+use Rattle.mt_chain.specs.Order.{numbers}
+use Rattle.mt_chain.specs.Laws.{numbers-push, sent_text-push}
 use Rattle.metron.specs.Serving.{Held, Outputs, AllGain, AllGainFront, HasServed, HasServedOne, IsUnserved, HasNotServedOne}
-use Rattle.metron.proofs.Orders.{numbers-push}
-use Rattle.metron.proofs.Outputs.{sent_text-push, all_nothing, all_twice, all_then_front, all_front, all_then_same}
+use Rattle.metron.proofs.Outputs.{all_nothing, all_twice, all_then_front, all_front, all_then_same}
 
 -- ---- what was served
 

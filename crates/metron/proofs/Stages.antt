@@ -14,8 +14,8 @@ use Rattle.mt_pcap.specs.Merged.{IsBrokenMerge, broken_at}
 use Rattle.mt_pcap.specs.Opened.{capture_in, captures_in}
 use Rattle.mt_elements.specs.ChainState.{ChainState}
 use Rattle.mt_chain.specs.declared.run.Fate.{Fate}
+use Rattle.mt_chain.specs.Fates.{device_text}
 use Rattle.mt_command.specs.Parts.{BoundView}
-use Rattle.metron.specs.Fates.{device_text}
 use Rattle.metron.specs.Inputs.{Told, inputs_of, outputs_of, BeginsWell, BeginWell, CaptureFault, ScriptFault, IsChainFault, text_limit, IsBusy}
 use Rattle.metron.specs.Serving.{Held, Outputs, AllGain, AllGainFront, HasInputRisen}
 use Rattle.metron.specs.Causes.{State, HasWritten, IsRefusal, IsRunOf, IsRun}

@@ -10,11 +10,11 @@ use Rattle.mt_pcap.specs.Merged.{IsWholeMerge, IsBrokenMerge}
 use Rattle.mt_elements.specs.ChainState.{ChainState}
 use Rattle.mt_chain.specs.Sequence.{run_all}
 use Rattle.mt_chain.specs.declared.run.Fate.{Fate}
+use Rattle.mt_chain.specs.Fates.{packets_of, device_text}
+use Rattle.mt_chain.specs.Order.{KeepsOrder, in_order, numbers}
 use Rattle.mt_command.specs.Parts.{RunView, BindingView, DeviceView, BoundView}
 use Rattle.mt_command.specs.Command.{IsCommand, IsFirstAtFault}
 use Rattle.mt_command.specs.Devices.{IsFirstUnfit, IsFirstUnbound, AreBound}
-use Rattle.metron.specs.Fates.{packets_of, device_text}
-use Rattle.metron.specs.Order.{KeepsOrder, in_order, numbers}
 use Rattle.metron.specs.Inputs.{IsChainRead, IsChainFault, devices_of, inputs_of, outputs_of, IsScriptRead, ScriptFault, BeginWell, CaptureFault}
 use Rattle.metron.specs.Serving.{Held, Outputs, AllGain, AllGainFront, IsSameElsewhere, OutputFault, HasInputRisen, fault_of, IsEnd, AreFirst}
 use Rattle.metron.specs.declared.outcome.FileId.TheVariants as file

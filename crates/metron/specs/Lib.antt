@@ -1,6 +1,4 @@
 pub mod Outcome
-pub mod Order
-pub mod Fates
 pub mod Finish
 pub mod Inputs
 pub mod Serving

@@ -17,8 +17,8 @@ use Rattle.mt_chain.specs.Run.{run_packet}
 use Rattle.mt_chain.specs.Sequence.{run_all}
 use Rattle.mt_chain.specs.declared.run.Fate.{Fate}
 use Rattle.mt_chain.specs.declared.run.Fate.TheVariants.{Sent, Dropped}
-use Rattle.metron.specs.Fates.{packets_of, fate_text, sent_text}
-use Rattle.metron.specs.Order.{numbers}
+use Rattle.mt_chain.specs.Fates.{packets_of, fate_text, sent_text}
+use Rattle.mt_chain.specs.Order.{numbers}
 use Rattle.metron.specs.declared.outcome.FileId.TheVariants as file
 use Rattle.metron.specs.declared.outcome.Fault.{Fault}
 use Rattle.metron.specs.declared.outcome.Fault.TheVariants.{Done, Capture as CaptureTold, Frames, Read, Write, Memory}

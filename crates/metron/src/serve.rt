@@ -8,7 +8,7 @@ ghost use Rattle.mt_elements.specs.ChainState.{entry_of};
 ghost use Rattle.mt_rewriter.specs.Kept.{AreTables};
 ghost use Rattle.mt_chain.specs.Run.{IsStateless, IsThere};
 ghost use Rattle.mt_chain.specs.declared.run.Fate.TheVariants as fates;
-ghost use Rattle.metron.specs.Fates.{fate_text};
+ghost use Rattle.mt_chain.specs.Fates.{fate_text};
 ghost use Rattle.metron.specs.Serving.{Held, AreFilesApart, AllGain, AllGainFront, IsSameElsewhere, OutputFault, IsServing, IsWritable, HasServedOne, HasNotServedOne, MergeCause};
 
 use crate::{Fault, FileId};

@@ -1,6 +1,6 @@
 -- A packet keeps on its way when and where it arrived, and never grows.
 use Rattle.std.proofs.Common.{◌≡◌, ◌∙◌, sym, ap, subst, refl, ℕ, zero, suc, ◌+◌, ◌-◌, ◌≤◌, Bool, true, false, List, length, arith}
-use Rattle.std.specs.Prelude.{Option, Some, None, Result, Ok, Err, ⊤, IfSome, if◌then◌else◌, nat_le, slice_get, option_map, option_and_then}
+use Rattle.std.specs.Prelude.{Option, Some, None, Result, Ok, Err, ⊤, IfSome, if◌then◌else◌, nat_le, slice_get, drop, option_map, option_and_then}
 use Rattle.std.proofs.lemmas.List.{length-drop}
 use Rattle.std.proofs.lemmas.Bool.{leb-true}
 use Rattle.mt_packet.specs.Flow.{packet_flow}
@@ -29,7 +29,7 @@ use Rattle.mt_chain.specs.declared.walk.Next.TheVariants.{Goes, Ends}
 use Rattle.mt_elements.specs.ChainState.{IsKind, entry_of, mappers_of}
 use Rattle.std.specs.Result.{result_ok}
 use Rattle.std.proofs.lemmas.Bool.{false≢true}
-use Rattle.std.proofs.lemmas.Option.{none-some}
+use Rattle.std.proofs.lemmas.Option.{none-some, same_Some}
 use Rattle.mt_kinds.specs.declared.rewriter.Spec.{Spec}
 use Rattle.mt_rewriter.specs.Kept.{AreTables, DecisionsKeep, MappingsStay}
 use Rattle.mt_rewriter.specs.Mappings.{TablesState}
@@ -227,11 +227,11 @@ came_from p q (Sent device frame) kept h =
 came_from p q (Dropped why) kept h = tt
 
 module _ (keep : DecisionsKeep) (stay : MappingsStay) (chain : ChainState) (picks : List ℕ) where
-  -- What is sent comes from the packet, what holds of tables still holds, no mapping has left, and no pick is wrong
-  -- where there is no rewriter.
+  -- What is sent comes from the packet, what holds of tables still holds, no mapping has left, no more picks are left
+  -- than there were, and no pick is wrong where there is no rewriter.
   abbrev Keeps-run : PacketState → TablesState → Answer Run → Type 0
   Keeps-run p tables None = ⊤
-  Keeps-run p tables (Some (Ok run)) = ComesFrom p run.fate × AreTables chain run.tables × Stays tables run.tables
+  Keeps-run p tables (Some (Ok run)) = ComesFrom p run.fate × AreTables chain run.tables × Stays tables run.tables × (length run.picks ≤ length picks)
   Keeps-run p tables (Some (Err place)) = IsStateless chain → ⊥
 
   abbrev Keeps-step : PacketState → TablesState → Answer (State × Exit) → Type 0
@@ -277,6 +277,9 @@ module _ (keep : DecisionsKeep) (stay : MappingsStay) (chain : ChainState) (pick
 
   -- ---- all of them
 
+  fewer : (used : ℕ) → length (drop used picks) ≤ length picks
+  fewer used = let left = length-drop used picks in omega (arith, left)
+
   module _ (most : ℕ) (again : (port : ℕ × ℕ) (state : State) → AreTables chain state.tables → Keeps-run state.packet state.tables (run_from most chain picks port state)) (p : PacketState) (before : TablesState) where
     by_next : (state : State) → IsKept p state.packet → AreTables chain state.tables → Stays before state.tables → (next : Option Next) → Keeps-run p before (option_and_then (follow picks (run_from most chain picks) state) next)
     by_next state same tables stays None = tt
@@ -284,11 +287,11 @@ module _ (keep : DecisionsKeep) (stay : MappingsStay) (chain : ChainState) (pick
       where
         either : (answer : Answer Run) → Keeps-run state.packet state.tables answer → Keeps-run p before answer
         either None h = tt
-        either (Some (Ok run)) h = (came_from p state.packet run.fate same h.0, h.1, λ m there. h.2 m (stays m there))
+        either (Some (Ok run)) h = (came_from p state.packet run.fate same h.0, h.1, λ m there. h.2 m (stays m there), h.3)
         either (Some (Err place)) h = h
     by_next state same tables stays (Some (Ends (ending.Sent device))) =
-        ((same.stamp, same.device, same.number, let size = same.size in omega (arith, size)), tables, stays)
-    by_next state same tables stays (Some (Ends (ending.Dropped why))) = (tt, tables, stays)
+        ((same.stamp, same.device, same.number, let size = same.size in omega (arith, size)), tables, stays, fewer state.used)
+    by_next state same tables stays (Some (Ends (ending.Dropped why))) = (tt, tables, stays, fewer state.used)
 
     by_step : (element : ℕ) (kind : Kind) (answer : Answer (State × Exit)) → Keeps-step p before answer → Keeps-run p before (option_and_then (goes_on chain picks element kind (run_from most chain picks)) answer)
     by_step element kind None h = tt
@@ -317,7 +320,17 @@ module _ (keep : DecisionsKeep) (stay : MappingsStay) (chain : ChainState) (pick
   -- what a run sends comes from its packet, and its tables hold what tables hold
   pub run_keeps : (tables : TablesState) (packet : PacketState) (run : Run) → AreTables chain tables → run_answer chain tables packet picks ≡ Some (Ok run)
       → ComesFrom packet run.fate × AreTables chain run.tables × Stays tables run.tables
-  run_keeps tables packet run kept is = subst (Keeps-run packet tables) is (answer_keeps tables packet kept)
+  run_keeps tables packet run kept is = let h = subst (Keeps-run packet tables) is (answer_keeps tables packet kept) in (h.0, h.1, h.2)
+
+  -- a run leaves no more picks than it was given
+  pub run_leaves : (tables : TablesState) (packet : PacketState) (run : Run) → AreTables chain tables → run_packet chain tables packet picks ≡ Some run → length run.picks ≤ length picks
+  unfolding run_packet
+  run_leaves tables packet run kept is = either (run_answer chain tables packet picks) is (answer_keeps tables packet kept)
+    where
+      either : (answer : Answer Run) → option_and_then result_ok answer ≡ Some run → Keeps-run packet tables answer → length run.picks ≤ length picks
+      either None told h = absurd (none-some run told)
+      either (Some (Ok other)) told h = subst (λ (r : Run). length r.picks ≤ length picks) (same_Some other run told) h.3
+      either (Some (Err place)) told h = absurd (none-some run told)
 
   -- without a rewriter no pick is wrong
   pub run_there : (tables : TablesState) (packet : PacketState) → AreTables chain tables → IsStateless chain → IsThere (run_answer chain tables packet picks) → IsThere (run_packet chain tables packet picks)

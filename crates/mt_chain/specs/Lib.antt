@@ -1,6 +1,9 @@
 pub mod Classifier
+pub mod Fates
 pub mod Filter
 pub mod Kept
+pub mod Laws
+pub mod Order
 pub mod Rewriting
 pub mod Route
 pub mod Run

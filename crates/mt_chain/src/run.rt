@@ -64,6 +64,7 @@ pub fn run_one(
     ensures cause { IfErr result (RunCause (run_answer chain.now tables.old packet picks.now)) }
     // Such a packet always has a run, or a pick that is missing or not free.
     ensures always { IsThere (run_answer chain.now tables.old packet picks.now) }
+    ensures left { (run : Run) → run_packet chain.now tables.old packet picks.now ≡ Some run → length run.picks ≤ length picks.now }
     // Where there is no rewriter no pick is needed.
     ensures stateless { IsStateless chain.now → IsThere (run_packet chain.now tables.old packet picks.now) }
     ensures sent { IfOk result (λ ran. ComesFrom packet ran.fate) }
@@ -97,6 +98,7 @@ fn expected(chain: &Chain, _tables: &Tables, _packet: &Packet, _picks: &[u16])
     requires known { IsThere (entry_of chain.now _packet.now.device) }
     requires kept { AreTables chain.now _tables.now }
     ensures always { IsThere (run_answer chain.now _tables.now _packet.now _picks.now) }
+    ensures left { (run : Run) → run_packet chain.now _tables.now _packet.now _picks.now ≡ Some run → length run.picks ≤ length _picks.now }
     ensures stateless { IsStateless chain.now → IsThere (run_packet chain.now _tables.now _packet.now _picks.now) }
     ensures keeps { (run : Run) → run_answer chain.now _tables.now _packet.now _picks.now ≡ Some (Ok run) → ComesFrom _packet.now run.fate × AreTables chain.now run.tables × Stays _tables.now run.tables }
 {
