@@ -1,0 +1,40 @@
+//! The laws of trees. The contract of each function is the law; there is nothing to run.
+ghost use Rattle.mt_trees.specs.Laws.{HeadersHaveTrees, TreesMeanRuns, RunsStayInRange, RewritesAreOrdered};
+
+use mt_chain::laws::devices_have_entries;
+use mt_kinds::laws::outputs_are_counted;
+use mt_rewriter::laws::{decisions_keep_tables, passages_lead};
+use mt_wiring::laws::ranks;
+
+/// Each frame that arrives on a device of an accepted chain has a tree.
+pub fn headers_have_trees()
+    ensures { HeadersHaveTrees }
+{
+    devices_have_entries();
+    outputs_are_counted();
+    ranks();
+}
+
+/// The tree of a frame's header means what the chain does with the frame, element by element, rewriters among them.
+pub fn trees_mean_runs()
+    ensures { TreesMeanRuns }
+{
+    decisions_keep_tables();
+    passages_lead();
+    outputs_are_counted();
+}
+
+/// Runs keep the flows of tables in their ranges, from the first tables on, which have none.
+pub fn runs_stay_in_range()
+    ensures { RunsStayInRange }
+{
+    headers_have_trees();
+    decisions_keep_tables();
+    passages_lead();
+    outputs_are_counted();
+}
+
+/// A rewrite writes each field once at most, by ascending field, and none with its own value.
+pub fn rewrites_are_ordered()
+    ensures { RewritesAreOrdered }
+{}
