@@ -1,14 +1,12 @@
 -- What a class and its arguments say: how many pools and mappers an element holds, and what other elements are.
 use Rattle.std.proofs.Common.{◌≡◌, ◌∙◌, ap, refl, sym, subst, ℕ, suc, ◌≤◌, cond, Bool, true, false, List, [], ◌∷◌, length, arith, ◌*◌}
-use Rattle.std.specs.Prelude.{⊤, ◌==◌, codes, Option, Some, None, Result, Ok, Err, option_map, option_and_then, IfSome, nat_le}
+use Rattle.std.specs.Prelude.{⊤, ◌==◌, codes, Option, Some, None, Result, Ok, Err, option_map, IfSome}
 use Rattle.std.specs.List.{flat_map, list_all}
 use Rattle.std.specs.Str.{bytes_eq}
 use Rattle.std.proofs.lemmas.List.{length-append}
-use Rattle.std.proofs.lemmas.Bool.Decides.{nat_tests}
-use Rattle.std.proofs.lemmas.Option.{same_Some}
 use Rattle.std.proofs.lemmas.Slice.Eq.{bytes_eq-Decides}
 use Rattle.mt_lists.specs.Options.{each}
-use Rattle.mt_text.specs.Number.{number_up_to, number_of}
+use Rattle.mt_text.specs.Number.{number_up_to}
 use Rattle.mt_text.specs.Address.{ethernet_address_of, ipv4_address_of}
 use Rattle.mt_kinds.specs.Arguments.{is_number, is_keyword, end_of}
 use Rattle.mt_kinds.specs.Classes.{plain, counter_of, queue_of, paint_of, fixed, encap_of, point_of, store_of, plain_kind, frame_kind, datagram_kind, or_else, stateless_kind, is_lookup, kind_of}
@@ -29,52 +27,21 @@ use Rattle.mt_kinds.specs.declared.written.WrittenSpec.{WrittenSpec}
 use Rattle.mt_kinds.specs.declared.written.WrittenSpec.TheVariants as written
 use Rattle.mt_kinds.specs.declared.written.WrittenTemplate.{WrittenTemplate}
 use Rattle.mt_elements.specs.Described.{pool_at, pool_in, spec_pool, pools_in}
-
--- ---- readings that may find nothing
-
-module _ {B : Type 0} (P : B → Type 0) where
-  either : (b : Bool) (o q : Option B) → IfSome o P → IfSome q P → IfSome (cond b o q) P
-  either true o q h k = h
-  either false o q h k = k
-
-  -- a chain of tests, as a table
-  abbrev pick : List (Bool × Option B) → Option B → Option B
-  pick [] last = last
-  pick ((test, o) ∷ table) last = cond test o (pick table last)
-
-  abbrev Each : List (Bool × Option B) → Option B → Type 0
-  Each [] last = IfSome last P
-  Each ((test, o) ∷ table) last = IfSome o P × Each table last
-
-  picked : (table : List (Bool × Option B)) (last : Option B) → Each table last → IfSome (pick table last) P
-  picked [] last h = h
-  picked ((test, o) ∷ table) last h = either test o (pick table last) h.0 (picked table last h.1)
-
-  of_each : {A : Type 0} (f : A → B) (o : Option A) → ((x : A) → P (f x)) → IfSome (option_map f o) P
-  of_each f None h = tt
-  of_each f (Some x) h = h x
-
-  of_found : {A : Type 0} (f : A → B) (o : Option A) → ((x : A) → o ≡ Some x → P (f x)) → IfSome (option_map f o) P
-  of_found f None h = tt
-  of_found f (Some x) h = h x refl
-
-  of_next : {A : Type 0} (f : A → Option B) (o : Option A) → ((x : A) → IfSome (f x) P) → IfSome (option_and_then f o) P
-  of_next f None h = tt
-  of_next f (Some x) h = h x
-
-  at_found : (o : Option B) (x : B) → IfSome o P → o ≡ Some x → P x
-  at_found None x h e = absurd cc
-  at_found (Some y) x h e = subst P (same_Some y x e) h
+use Rattle.mt_elements.specs.Ranges.{IsAddress, KindFits}
+use Rattle.mt_elements.proofs.Optional.{either, picked, of_each, of_found, of_next, next_good, at_found, AllGood}
+use Rattle.mt_elements.proofs.Ranges.{up_to, address_is, IsEthernet, ethernet_is, WrittenFits, WrittenSpecFits, templates_are, specs_are}
 
 -- ---- the stateless classes
 
--- no element of another class, and a code point of six bits
+-- no element of another class, a code point of six bits, and numbers in their ranges
 abbrev pub IsPlain : Kind → Type 0
 IsPlain (kind.FromDevice device) = ⊥
 IsPlain (kind.ToDevice device) = ⊥
 IsPlain (kind.IPRewriter specs) = ⊥
 IsPlain (kind.RoundRobinIPMapper templates) = ⊥
 IsPlain (kind.SetIPDSCP point) = point ≤ 63
+IsPlain (kind.EtherEncap ether_type src dst) = KindFits (kind.EtherEncap ether_type src dst)
+IsPlain (kind.StoreIPAddress address which) = KindFits (kind.StoreIPAddress address which)
 IsPlain other = ⊤
 
 plain_is : (k : Kind) (arguments : List (List ℕ)) → IsPlain k → IfSome (plain k arguments) IsPlain
@@ -110,18 +77,15 @@ encap_is [] = tt
 encap_is (first ∷ []) = tt
 encap_is (first ∷ second ∷ []) = tt
 encap_is (first ∷ second ∷ third ∷ []) =
-    of_next IsPlain _ (number_up_to 65535 first) (λ ether_type.
-    of_next IsPlain _ (ethernet_address_of second) (λ src.
-    of_next IsPlain _ (ethernet_address_of third) (λ dst. either IsPlain (ether_type == 2054) None (Some (kind.EtherEncap ether_type src dst)) tt tt)))
-encap_is (a ∷ b ∷ c ∷ d ∷ more) = tt
-
-up_to : (greatest : ℕ) (word : List ℕ) → IfSome (number_up_to greatest word) (λ n. n ≤ greatest)
-unfolding number_up_to
-up_to greatest word = of_next (λ n. n ≤ greatest) _ (number_of word) (λ n. test n (nat_le n greatest) refl)
+    next_good IsPlain (λ n. n ≤ 65535) _ (number_up_to 65535 first) (up_to 65535 first) (λ ether_type low.
+    next_good IsPlain IsEthernet _ (ethernet_address_of second) (ethernet_is second) (λ src low_src.
+    next_good IsPlain IsEthernet _ (ethernet_address_of third) (ethernet_is third) (λ dst low_dst. unless ether_type src dst low low_src low_dst (ether_type == 2054) refl)))
   where
-    test : (n : ℕ) (b : Bool) → nat_le n greatest ≡ b → IfSome (cond b (Some n) None) (λ n. n ≤ greatest)
-    test n true h = grind (arith, nat_tests)
-    test n false h = tt
+    unless : (ether_type src dst : ℕ) → ether_type ≤ 65535 → IsEthernet src → IsEthernet dst → (b : Bool) → (ether_type == 2054) ≡ b
+        → IfSome (cond b None (Some (kind.EtherEncap ether_type src dst))) IsPlain
+    unless ether_type src dst low low_src low_dst true h = tt
+    unless ether_type src dst low low_src low_dst false h = (low, h, low_src, low_dst)
+encap_is (a ∷ b ∷ c ∷ d ∷ more) = tt
 
 point_is : (arguments : List (List ℕ)) → IfSome (point_of arguments) IsPlain
 unfolding point_of
@@ -134,7 +98,7 @@ unfolding store_of
 store_is [] = tt
 store_is (first ∷ []) = tt
 store_is (first ∷ second ∷ []) =
-    of_next IsPlain _ (ipv4_address_of first) (λ address. of_next IsPlain _ (end_of second) (λ which. tt))
+    next_good IsPlain IsAddress _ (ipv4_address_of first) (address_is first) (λ address low. of_next IsPlain _ (end_of second) (λ which. low))
 store_is (x ∷ y ∷ z ∷ more) = tt
 
 plain_kind_is : (class : List ℕ) (arguments : List (List ℕ)) → IfSome (plain_kind class arguments) IsPlain
@@ -192,6 +156,8 @@ one_where false = 0
 
 abbrev pub settled_is : Description → Type 0
 settled_is (Settled k) = IsPlain k
+settled_is (Rewriter specs) = AllGood WrittenSpecFits specs
+settled_is (Mapper templates) = AllGood WrittenFits templates
 settled_is other = ⊤
 
 -- what holds of what a class and arguments say
@@ -264,14 +230,14 @@ module _ (class : List ℕ) (arguments : List (List ℕ)) where
 
   as_rewriter : bytes_eq class (codes "IPRewriter") ≡ true → IfSome (option_map Rewriter (specs_of arguments)) (Fits class arguments)
   as_rewriter h = of_found (Fits class arguments) Rewriter (specs_of arguments) (λ specs found. record {
-    settled = tt;
+    settled = at_found (AllGood WrittenSpecFits) (specs_of arguments) specs (specs_are arguments) found;
     mappers = no_mapper (codes "IPRewriter") refl h;
     pools = at_found (λ specs. length (flat_map spec_pool specs) ≤ length arguments) (specs_of arguments) specs (specs_pools arguments) found;
   })
 
   as_mapper : bytes_eq class (codes "RoundRobinIPMapper") ≡ true → IfSome (option_map Mapper (templates_of arguments)) (Fits class arguments)
   as_mapper h = of_found (Fits class arguments) Mapper (templates_of arguments) (λ templates found. record {
-    settled = tt;
+    settled = at_found (AllGood WrittenFits) (templates_of arguments) templates (templates_are arguments) found;
     mappers = sym (ap one_where h);
     pools = at_found (λ templates. length (flat_map pool_in templates) ≤ length arguments) (templates_of arguments) templates (templates_pools arguments) found;
   })

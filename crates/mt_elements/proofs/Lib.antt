@@ -5,8 +5,11 @@ pub mod Firsts
 pub mod WiresTold
 pub mod NextFound
 pub mod ChainNext
+pub mod Optional
+pub mod Ranges
 pub mod Classes
 pub mod Made
+pub mod Fitting
 pub mod Numbered
 pub mod Bounds
 pub mod Walks

@@ -24,6 +24,7 @@ use Rattle.mt_elements.specs.ChainState.{ChainState, IsKind, patterns_in, mapper
 use Rattle.mt_elements.specs.Described.{describe, scope_of, is_mapper, mapper_names, is_known, entry_in, exit_in, entry_names, when, fault_in, AreFaultless, added, entries_of, devices_of, pools_of, spec_of, device_of, kind_of, kinds_of, chain_of}
 use Rattle.mt_elements.specs.Numbered.{IsNumbered}
 use Rattle.mt_elements.proofs.Classes.{IsPlain, settled_is, mappers_in, one_where, fits}
+use Rattle.mt_elements.proofs.Fitting.{fitting}
 use Rattle.mt_elements.proofs.Firsts.{kept, source, has_each, apart, place_in_front}
 use Rattle.mt_elements.proofs.Made.{Made, made, kind_at, says, element_at, in_flat, from_flat, from_map, all_at, place_within}
 
@@ -219,4 +220,5 @@ module _ (elements : List Element) (wires : List Wire) (descriptions : List Desc
     sends = λ element device h. sends_at element device (made devices (pools_of descriptions) names elements descriptions element (kind.ToDevice device) h);
     points = λ element point h. points_at element point (made devices (pools_of descriptions) names elements descriptions element (kind.SetIPDSCP point) h);
     mapped = λ element specs number h c. mapped_at element specs number (made devices (pools_of descriptions) names elements descriptions element (kind.IPRewriter specs) h) c;
+    in_range = fitting elements wires descriptions described;
   }

@@ -7,5 +7,6 @@ pub mod Table
 pub mod Accepted
 pub mod Refused
 pub mod Replies
+pub mod Ranges
 pub mod Numbered
 pub mod Kept

@@ -4,6 +4,7 @@ use Rattle.mt_kinds.specs.declared.kind.Kind.TheVariants.{FromDevice, ToDevice, 
 use Rattle.mt_kinds.specs.declared.rewriter.Spec.{Spec}
 use Rattle.mt_kinds.specs.declared.rewriter.Spec.TheVariants.{Mapper}
 use Rattle.mt_elements.specs.ChainState.{ChainState, IsKind, mappers_of}
+use Rattle.mt_elements.specs.Ranges.{IsInRange}
 
 pub record IsNumbered (chain : ChainState) : Type 0 where
   -- frames enter by each of the first devices, as many as the entries, at an element of its own, and by no other
@@ -16,3 +17,5 @@ pub record IsNumbered (chain : ChainState) : Type 0 where
   pub points : (element point : ℕ) → IsKind chain element (SetIPDSCP point) → point ≤ 63
   -- a rewriter names mappers that are there
   pub mapped : (element : ℕ) (specs : List Spec) (number : ℕ) → IsKind chain element (IPRewriter specs) → Contains specs (Mapper number) → number < length (mappers_of chain.kinds)
+  -- numbers are in the ranges of the fields that they are written to
+  pub in_range : IsInRange chain
