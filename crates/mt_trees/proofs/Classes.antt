@@ -26,6 +26,7 @@ use Rattle.mt_kinds.specs.declared.kind.Kind.TheVariants as kind
 use Rattle.mt_kinds.specs.declared.rule.FilterAction.{FilterAction}
 use Rattle.mt_kinds.specs.declared.rule.FilterAction.TheVariants.{Deny, Out}
 use Rattle.mt_elements.specs.ChainState.{ChainState}
+use Rattle.mt_elements.specs.Ranges.{KindFits}
 use Rattle.mt_chain.specs.Classifier.{value_of as read, is_whole}
 use Rattle.mt_chain.specs.Run.{State, Run, Answer, with_packet, goes_on, stamped_of}
 use Rattle.mt_chain.specs.Step.{class_step, leaves as run_leaves, drops as run_drops, by_pattern, ethernet_swapped as swap_ethernet, refused as refuse, one_hop_on, address_of, addresses_swapped as swap_addresses, ports_swapped as swap_ports, by_action, by_ip_pattern, towards, by_hop}
@@ -43,7 +44,6 @@ use Rattle.mt_trees.proofs.Tested.{header_value}
 use Rattle.mt_trees.proofs.Writes.{one_field, two_fields, unsome}
 use Rattle.mt_trees.specs.Elements.{Along, class_tree, check_tree, leaves, with_gateway, action_tree, dropped, rewrite_of}
 use Rattle.mt_trees.specs.Meaning.{meaning_of, rewriters_of, rewritten}
-use Rattle.mt_trees.specs.Ranges.{KindFits}
 use Rattle.mt_trees.specs.Symbols.{Symbol, term_at, with_term, annotated, stripped, encapsulated, ethernet_swapped, checked, refused, addresses_swapped, ports_swapped}
 use Rattle.mt_trees.specs.Tests.{Found}
 

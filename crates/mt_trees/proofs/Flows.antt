@@ -20,6 +20,7 @@ use Rattle.mt_kinds.specs.declared.rewriter.Spec.{Spec}
 use Rattle.mt_kinds.specs.declared.rewriter.Spec.TheVariants.{Drop, Pass, Keep, Pattern, Mapper}
 use Rattle.mt_kinds.specs.declared.rewriter.Template.{Template}
 use Rattle.mt_elements.specs.ChainState.{ChainState, IsKind, specs_in, mappers_of}
+use Rattle.mt_elements.specs.Ranges.{IsInRange}
 use Rattle.mt_rewriter.proofs.Decisions.{IsFresh, fresh_for}
 use Rattle.mt_rewriter.proofs.KeptTables.{is_new, among_inserted}
 use Rattle.mt_rewriter.proofs.Undoing.{not_there}
@@ -35,7 +36,7 @@ use Rattle.mt_terms.specs.declared.term.Part.{Part}
 use Rattle.mt_terms.specs.declared.term.Part.TheVariants.{Sa, Sp, Da, Dp}
 use Rattle.mt_trees.proofs.Translated.{contained, passes, IsTemplateOf, SpecComes, OpenedComes, PassageComes, DecisionComes, spec_comes, part_left, proto_left, spec_fits}
 use Rattle.mt_trees.specs.Passages.{across, spec_leaves, keeps_part}
-use Rattle.mt_trees.specs.Ranges.{FlowFits, IsInRange, AreInRange}
+use Rattle.mt_trees.specs.Ranges.{FlowFits, AreInRange}
 
 -- ---- equal keys and flows
 

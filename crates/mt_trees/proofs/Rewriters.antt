@@ -19,6 +19,7 @@ use Rattle.mt_kinds.specs.declared.kind.Kind.TheVariants as kind
 use Rattle.mt_kinds.specs.declared.rewriter.Spec.{Spec}
 use Rattle.mt_kinds.specs.declared.rewriter.Spec.TheVariants as spec
 use Rattle.mt_elements.specs.ChainState.{ChainState, IsKind, mappers_of, specs_in}
+use Rattle.mt_elements.specs.Ranges.{IsInRange}
 use Rattle.mt_rewriter.specs.Kept.{DecisionsKeep, PassageLeads, PassagesLead}
 use Rattle.mt_rewriter.specs.Passages.{decide_for, remembered, settled, unported}
 use Rattle.mt_rewriter.specs.declared.passage.Decision.{Decision}
@@ -46,7 +47,7 @@ use Rattle.mt_trees.proofs.Writes.{unsome, two_fields}
 use Rattle.mt_trees.specs.Elements.{Along, leaves, passed_tree, passage_tree, rewriter_tree}
 use Rattle.mt_trees.specs.Meaning.{Under, meaning_of, meaning_among, rewriters_of, flow_at, by_passage as meant_by_passage, by_decision, at_input}
 use Rattle.mt_trees.specs.Passages.{keeps_part, field_of_part, part_behind, one_more, behind, code_of, outputs_taken}
-use Rattle.mt_trees.specs.Ranges.{FlowFits, IsInRange}
+use Rattle.mt_trees.specs.Ranges.{FlowFits}
 use Rattle.mt_trees.specs.Symbols.{Symbol, term_at, annotated}
 use Rattle.mt_trees.specs.Tests.{Found}
 

@@ -15,6 +15,7 @@ use Rattle.mt_kinds.specs.declared.kind.Kind.{Kind}
 use Rattle.mt_kinds.specs.declared.kind.Kind.TheVariants as kind
 use Rattle.mt_elements.specs.ChainState.{ChainState, IsKind, mappers_of, entry_of}
 use Rattle.mt_elements.specs.Numbered.{IsNumbered}
+use Rattle.mt_elements.specs.Ranges.{IsInRange}
 use Rattle.mt_rewriter.specs.Kept.{DecisionsKeep, PassagesLead}
 use Rattle.mt_rewriter.specs.Mappings.{TablesState}
 use Rattle.mt_chain.specs.Run.{State, Run, Answer, goes_on, element_step, rewriter_step, at_element, with_packet, run_from, run_answer}
@@ -30,7 +31,6 @@ use Rattle.mt_trees.proofs.Steps.{ip_is}
 use Rattle.mt_trees.proofs.Tested.{Fine, none_agrees}
 use Rattle.mt_trees.specs.Elements.{class_tree, element_tree, tree_from, tree_of, is_own}
 use Rattle.mt_trees.specs.Meaning.{meaning_of, rewriters_of, first_under}
-use Rattle.mt_trees.specs.Ranges.{IsInRange}
 use Rattle.mt_trees.specs.Symbols.{Symbol, term_at, first_symbol}
 use Rattle.mt_trees.specs.Tests.{Found}
 

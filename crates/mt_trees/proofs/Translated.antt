@@ -18,6 +18,7 @@ use Rattle.mt_kinds.specs.declared.rewriter.SourcePort.TheVariants as source
 use Rattle.mt_kinds.specs.declared.rewriter.Spec.{Spec}
 use Rattle.mt_kinds.specs.declared.rewriter.Spec.TheVariants.{Drop, Pass, Keep, Pattern, Mapper}
 use Rattle.mt_kinds.specs.declared.rewriter.Template.{Template}
+use Rattle.mt_elements.specs.Ranges.{IsAddress, IsPort, SourceFits, TemplateFits, SpecFits}
 use Rattle.mt_rewriter.specs.Mappings.{Mapping, TablesState, is_free, meets_reply, turn_of}
 use Rattle.mt_rewriter.specs.Passages.{by_attempt, by_round, by_spec}
 use Rattle.mt_rewriter.specs.Tries.{is_in, has_free, picked, from_pool, source_of, rewritten, made_or_clashed, by_source, try_template, keeping, turn_behind, after_try, ring_on, ring_over, ring_at, ring}
@@ -30,7 +31,7 @@ use Rattle.mt_terms.specs.Terms.{part_of}
 use Rattle.mt_terms.specs.declared.term.Part.{Part}
 use Rattle.mt_terms.specs.declared.term.Part.TheVariants.{Sa, Sp, Da, Dp}
 use Rattle.mt_trees.specs.Passages.{is_same, template_leaves, spec_leaves}
-use Rattle.mt_trees.specs.Ranges.{IsAddress, IsPort, FlowFits, SourceFits, TemplateFits, SpecFits}
+use Rattle.mt_trees.specs.Ranges.{FlowFits}
 
 -- ---- elements of lists
 

@@ -12,7 +12,7 @@ use Rattle.mt_terms.specs.Trees.{TreeForm}
 use Rattle.mt_terms.specs.Writes.{WriteForm}
 use Rattle.mt_trees.specs.Elements.{is_own, rewrite_of, tree_of}
 use Rattle.mt_trees.specs.Meaning.{meaning_of, rewriters_of, first_under}
-use Rattle.mt_trees.specs.Ranges.{IsInRange, AreInRange}
+use Rattle.mt_trees.specs.Ranges.{AreInRange}
 use Rattle.mt_trees.specs.Symbols.{Symbol}
 
 -- each frame that arrives on a device of an accepted chain has a tree
@@ -21,17 +21,18 @@ HeadersHaveTrees =
     (chain : ChainState) → IsAccepted chain → IsNumbered chain → (device : ℕ) → 0 < device → device ≤ chain.entries → (frame : List ℕ) → IsThere (tree_of chain (header_of device frame))
 
 -- The tree of a frame's header means the run of the frame, value for value: its fate, the tables and the picks that it
--- leaves, or the place of the pick that is wrong. Numbers of the chain and of the tables' flows are in their ranges.
+-- leaves, or the place of the pick that is wrong. Numbers of the tables' flows are in their ranges, as those of every
+-- accepted chain are.
 abbrev pub TreesMeanRuns : Type 0
 TreesMeanRuns =
-    (chain : ChainState) → IsAccepted chain → IsNumbered chain → IsInRange chain → (frame : List ℕ) → AreBytes frame → (stamp device number : ℕ) → (tables : TablesState) → AreTables chain tables → AreInRange tables
+    (chain : ChainState) → IsAccepted chain → IsNumbered chain → (frame : List ℕ) → AreBytes frame → (stamp device number : ℕ) → (tables : TablesState) → AreTables chain tables → AreInRange tables
     → (picks : List ℕ) (tree : TreeForm) → tree_of chain (header_of device frame) ≡ Some tree
     → meaning_of (rewriters_of chain) picks (arrived frame stamp device number) (header_of device frame) tree (first_under tables) ≡ run_answer chain tables (arrived frame stamp device number) picks
 
 -- and the flows of its tables stay in their ranges
 abbrev pub RunsStayInRange : Type 0
 RunsStayInRange =
-    (chain : ChainState) → IsAccepted chain → IsNumbered chain → IsInRange chain → (device : ℕ) → 0 < device → device ≤ chain.entries → (frame : List ℕ) → AreBytes frame → (stamp number : ℕ)
+    (chain : ChainState) → IsAccepted chain → IsNumbered chain → (device : ℕ) → 0 < device → device ≤ chain.entries → (frame : List ℕ) → AreBytes frame → (stamp number : ℕ)
     → (tables : TablesState) → AreTables chain tables → AreInRange tables → (picks : List ℕ) (run : Run) → run_answer chain tables (arrived frame stamp device number) picks ≡ Some (Ok run) → AreInRange run.tables
 
 -- the fields ascend from a number on, and none is written with its own value

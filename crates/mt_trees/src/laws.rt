@@ -15,7 +15,8 @@ pub fn headers_have_trees()
     ranks();
 }
 
-/// The tree of a frame's header means what the chain does with the frame, element by element, rewriters among them.
+/// The tree of a frame's header means what an accepted chain does with the frame, element by element, rewriters among
+/// them, where the flows of its tables are in their ranges.
 pub fn trees_mean_runs()
     ensures { TreesMeanRuns }
 {

@@ -6,6 +6,6 @@ use Rattle.mt_trees.proofs.laws.trees_mean_runs.Goals as goal
 
 pub returns : goal.returns
 unfolding header_of
-returns c = λ chain accepted numbered ranges frame bytes stamp device number tables kept range picks tree is.
-    (tree_means chain ranges numbered c.decisions_keep_tables.ensures c.passages_lead.ensures c.outputs_are_counted.ensures (header_of device frame) (arrived frame stamp device number) refl refl bytes picks refl refl tables
+returns c = λ chain accepted numbered frame bytes stamp device number tables kept range picks tree is.
+    (tree_means chain numbered.in_range numbered c.decisions_keep_tables.ensures c.passages_lead.ensures c.outputs_are_counted.ensures (header_of device frame) (arrived frame stamp device number) refl refl bytes picks refl refl tables
     (record { kept = kept; range = range }) tree is).0
