@@ -82,7 +82,7 @@ fn lowest_returning(
 
 /// The lowest element that is on a ring: a packet that entered it by one of its inputs can come to this input again. It
 /// takes time in the number of links between input ports, and where there are rings also in that number times the number of
-/// ports that lead to one.
+/// ports on one.
 pub fn lowest_on_ring<E: Elements>(
     alloc: Global,
     elements: &E,
