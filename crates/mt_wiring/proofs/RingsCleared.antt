@@ -1,14 +1,14 @@
 -- A node all of whose links lead to higher ranks is not reached from itself, where ranks fall along no link.
 use Rattle.std.proofs.Common.{◌≡◌, ◌↔◌, ℕ, zero, suc, ◌+◌, ◌<◌, ◌≤◌, ◌⊎◌, inl, inr, Bool, true, false, List, [], ◌∷◌, ◌++◌, length, get_or, nat_lt, refl, sym, ap, ◌∙◌, subst, arith}
-use Rattle.std.specs.Prelude.{Option}
+use Rattle.std.specs.Prelude.{Option, IfSome}
 use Rattle.std.specs.List.{Contains}
 use Rattle.std.proofs.lemmas.Bool.{false≢true}
 use Rattle.std.proofs.lemmas.Bool.Decides.{nat_tests}
 use Rattle.std.proofs.lemmas.Option.{slice_get-get_or}
 use Rattle.mt_reach.specs.Reach.{targets_of, Reaches, here, on, AreBelow}
-use Rattle.mt_wiring.specs.Pushes.{IsAmong, IsLowest, lower}
+use Rattle.mt_wiring.specs.Pushes.{IsAmong, IsLowest, HasAtMost, HasLowered}
 use Rattle.mt_wiring.specs.Numbers.{Returns, IsRingAt, AreClear, NeverFall}
-use Rattle.mt_wiring.proofs.Pushing.{lowest_more}
+use Rattle.mt_wiring.proofs.Pushing.{among_cases, among_all, lowest_of_all}
 
 -- what is reached has no lower rank
 reached_above : (graph : List (List ℕ)) (ranks : List ℕ) → NeverFall graph ranks → (a c : ℕ) → Reaches graph a c → get_or ranks a 0 ≤ get_or ranks c 0
@@ -54,11 +54,23 @@ clear_more graph clear new node risen len e is h n marked r = elim (pushed_cases
   | inr it ↦ is it.1 (subst (Returns graph) (it.0 ∙ len) r)
 ]
 
--- one port more
-pub ring_known : (graph : List (List ℕ)) (ports : List (ℕ × ℕ)) (at : ℕ) (d : ℕ × ℕ) (back : Bool) (old new : Option ℕ) → at < length ports → (back ≡ true) ↔ Returns graph at → new ≡ lower back (get_or ports at d).0 old
-    → IsLowest (IsAmong (IsRingAt graph) ports at) old → IsLowest (IsAmong (IsRingAt graph) ports (at + 1)) new
-ring_known graph ports at d back old new lt is f h = subst (IsLowest (IsAmong (IsRingAt graph) ports (at + 1))) (sym f)
-    (lowest_more (IsRingAt graph) ports at (get_or ports at d) back (get_or ports at d).0 old (slice_get-get_or ports at d lt) (λ t. (refl, is.0 t)) (λ m r. (is.1 r.1, r.0)) h)
+module _ (graph : List (List ℕ)) (ports : List (ℕ × ℕ)) where
+  -- a port whose node returns
+  pub ring_here : (at : ℕ) (d : ℕ × ℕ) → at < length ports → Returns graph at → IsAmong (IsRingAt graph) ports (length ports) (get_or ports at d).0
+  ring_here at d lt r = record { place = at; below = lt; element = get_or ports at d; is = slice_get-get_or ports at d lt; related = (refl, r) }
+
+  -- one port more
+  pub least_more : (at : ℕ) (d : ℕ × ℕ) (old new : Option ℕ) → at < length ports → ((m : ℕ) → IsAmong (IsRingAt graph) ports at m → HasAtMost old m)
+      → HasLowered (Returns graph at) (get_or ports at d).0 old new → (m : ℕ) → IsAmong (IsRingAt graph) ports (at + 1) m → HasAtMost new m
+  least_more at d old new lt h l m among = elim (among_cases (IsRingAt graph) ports at (get_or ports at d) m (slice_get-get_or ports at d lt) among) [
+    | inl before ↦ l.kept m (h m before)
+    | inr r ↦ subst (HasAtMost new) r.0 (l.least r.1)
+  ]
+
+  -- all ports
+  pub lowest_at_end : (at : ℕ) (r : Option ℕ) → length ports ≤ at → IfSome r (IsAmong (IsRingAt graph) ports (length ports)) → ((m : ℕ) → IsAmong (IsRingAt graph) ports at m → HasAtMost r m)
+      → IsLowest (IsAmong (IsRingAt graph) ports (length ports)) r
+  lowest_at_end at r le found least = lowest_of_all (IsAmong (IsRingAt graph) ports (length ports)) r found (λ m among. least m ((among_all (IsRingAt graph) ports at m le).1 among))
 
 -- a clear node
 pub not_back : (graph : List (List ℕ)) (clear : List Bool) (n : ℕ) (known : Bool) → AreClear graph clear → known ≡ get_or clear n false → known ≡ true → (false ≡ true) ↔ Returns graph n
