@@ -3,7 +3,7 @@ use Rattle.std.proofs.Common.{◌≡◌, ◌↔◌, ℕ, ◌+◌, ◌<◌, ◌�
 use Rattle.std.proofs.lemmas.Bool.{cases_lt}
 use Rattle.std.proofs.lemmas.Bool.Decides.{nat_tests}
 use Rattle.std.proofs.lemmas.Option.{slice_get_within}
-use Rattle.mt_wiring.specs.Pushes.{HasPushed, IsAmong, IsLowest, lower}
+use Rattle.mt_wiring.specs.Pushes.{HasPushed, IsAmong, IsLowest, HasAtMost, HasLowered, lower}
 
 pub some_same : {X : Type 0} (x y : X) → Some x ≡ Some y → x ≡ y
 some_same x y e = let q : Some x ≡ Some y = e in cc
@@ -105,3 +105,16 @@ module _ {A : Type 0} (R : ℕ → A → ℕ → Type 0) (xs : List A) where
 
   pub lowest_all : (i : ℕ) (r : Option ℕ) → length xs ≤ i → IsLowest (IsAmong R xs i) r → IsLowest (IsAmong R xs (length xs)) r
   lowest_all i r le h = lowest_as (IsAmong R xs i) (IsAmong R xs (length xs)) r (λ n. among_all R xs i n le) h
+
+-- one more, and the lowest so far
+pub lowered_found : (P : ℕ → Type 0) (Wanted : Type 0) (n : ℕ) (old new : Option ℕ) → (Wanted → P n) → IfSome old P → HasLowered Wanted n old new → IfSome new P
+lowered_found P Wanted n old None here h l = tt
+lowered_found P Wanted n old (Some m) here h l = elim l.found [
+  | inl same ↦ subst (λ r. IfSome r P) same h
+  | inr it ↦ subst P it.1 (here it.0)
+]
+
+-- the lowest is found, and at most each that is wanted
+pub lowest_of_all : (P : ℕ → Type 0) (r : Option ℕ) → IfSome r P → ((m : ℕ) → P m → HasAtMost r m) → IsLowest P r
+lowest_of_all P None found least = least
+lowest_of_all P (Some k) found least = (found, λ m lt p. let le = least m p in omega (arith, lt, le))

@@ -1,17 +1,22 @@
--- A node whose links all lead to nodes that are not reached from themselves is not reached from itself.
-use Rattle.std.proofs.Common.{◌≡◌, ◌↔◌, ℕ, zero, suc, ◌+◌, ◌<◌, ◌⊎◌, inl, inr, Bool, true, false, List, [], ◌∷◌, length, get_or, replicate, refl, sym, ap, ◌∙◌, subst, arith}
-use Rattle.std.specs.Prelude.{Option}
-use Rattle.std.specs.List.{Contains, list_all}
-use Rattle.std.proofs.lemmas.Bool.{cases_lt, false≢true}
-use Rattle.std.proofs.lemmas.List.{get_or-replicate, get_or_past, length-replicate}
+-- A node all of whose links lead to higher ranks is not reached from itself, where ranks fall along no link.
+use Rattle.std.proofs.Common.{◌≡◌, ◌↔◌, ℕ, zero, suc, ◌+◌, ◌<◌, ◌≤◌, ◌⊎◌, inl, inr, Bool, true, false, List, [], ◌∷◌, ◌++◌, length, get_or, nat_lt, refl, sym, ap, ◌∙◌, subst, arith}
+use Rattle.std.specs.Prelude.{Option, IfSome}
+use Rattle.std.specs.List.{Contains}
+use Rattle.std.proofs.lemmas.Bool.{false≢true}
+use Rattle.std.proofs.lemmas.Bool.Decides.{nat_tests}
 use Rattle.std.proofs.lemmas.Option.{slice_get-get_or}
-use Rattle.mt_lists.proofs.Bools.{and_true}
-use Rattle.mt_lists.proofs.Members.{cases_in, none_in}
-use Rattle.std.specs.Prelude.{slice_set}
 use Rattle.mt_reach.specs.Reach.{targets_of, Reaches, here, on, AreBelow}
-use Rattle.mt_wiring.specs.Pushes.{IsAmong, IsLowest, lower}
-use Rattle.mt_wiring.specs.Numbers.{Returns, IsRingAt, AreClear}
-use Rattle.mt_wiring.proofs.Pushing.{lowest_more}
+use Rattle.mt_wiring.specs.Pushes.{IsAmong, IsLowest, HasAtMost, HasLowered}
+use Rattle.mt_wiring.specs.Numbers.{Returns, IsRingAt, AreClear, NeverFall}
+use Rattle.mt_wiring.proofs.Pushing.{among_cases, among_all, lowest_of_all}
+
+-- what is reached has no lower rank
+reached_above : (graph : List (List ℕ)) (ranks : List ℕ) → NeverFall graph ranks → (a c : ℕ) → Reaches graph a c → get_or ranks a 0 ≤ get_or ranks c 0
+reached_above graph ranks h _ _ (here _ a) = omega arith
+reached_above graph ranks h _ _ (on _ a b c way link) =
+    let before = reached_above graph ranks h a b way in
+    let next = h b c link in
+    omega (arith, before, next)
 
 first_step : (graph : List (List ℕ)) (a c : ℕ) → Reaches graph a c → (a ≡ c) ⊎ ((b : ℕ) × Contains (targets_of graph a) b × Reaches graph b c)
 first_step graph _ _ (here _ a) = inl refl
@@ -20,53 +25,52 @@ first_step graph _ _ (on _ a b c way link) = elim (first_step graph a b way) [
   | inr s ↦ inr (s.0, s.1, on graph s.0 b c s.2 link)
 ]
 
--- on a ring the next node is on it too
-next_returns : (graph : List (List ℕ)) (n : ℕ) → Returns graph n → (b : ℕ) × Contains (targets_of graph n) b × Returns graph b
-next_returns graph n r = elim (first_step graph n r.last r.reached) [
-  | inl same ↦ (n, subst (λ x. Contains (targets_of graph x) n) (sym same) r.link, r)
-  | inr s ↦ (s.0, s.1, record { last = n; reached = on graph s.0 r.last n s.2 r.link; link = s.1 })
+-- a node that returns has a link to a node of no higher rank
+level : (graph : List (List ℕ)) (ranks : List ℕ) (n : ℕ) → NeverFall graph ranks → Returns graph n → (b : ℕ) × Contains (targets_of graph n) b × (get_or ranks b 0 ≤ get_or ranks n 0)
+level graph ranks n h r = elim (first_step graph n r.last r.reached) [
+  | inl same ↦ (n, subst (λ x. Contains (targets_of graph x) n) (sym same) r.link, omega arith)
+  | inr s ↦ (s.0, s.1, (let back = reached_above graph ranks h s.0 r.last s.2 in let last = h r.last n r.link in omega (arith, back, last)))
 ]
 
-each_of : (p : ℕ → Bool) (xs : List ℕ) → list_all p xs ≡ true → (x : ℕ) → Contains xs x → p x ≡ true
-each_of p [] h x c = none_in x c
-each_of p (y ∷ ys) h x c =
-    let both = and_true (p y) (list_all p ys) h in
-    elim (cases_in y ys x c) [
-      | inl same ↦ subst (λ z. p z ≡ true) same both.0
-      | inr later ↦ each_of p ys both.1 x later
-    ]
+pub not_level : (graph : List (List ℕ)) (ranks : List ℕ) (n rank least : ℕ) (targets : List ℕ) → NeverFall graph ranks → rank ≡ get_or ranks n 0 → targets ≡ targets_of graph n
+    → ((b : ℕ) → Contains targets b → least ≤ get_or ranks b 0) → nat_lt rank least ≡ true → Returns graph n → ⊥
+not_level graph ranks n rank least targets h is are low lt r =
+    let b = level graph ranks n h r in
+    let above = low b.0 (subst (λ ts. Contains ts b.0) (sym are) b.1) in
+    let below = b.2 in
+    let less : rank < least = grind (arith, nat_tests) in
+    omega (arith, above, below, is, less)
 
-set_cases : (xs : List Bool) (n m : ℕ) → get_or (slice_set xs n true) m false ≡ true → (m ≡ n) ⊎ (get_or xs m false ≡ true)
-set_cases [] n m e = inr e
-set_cases (x ∷ xs) zero zero e = inl refl
-set_cases (x ∷ xs) zero (suc m) e = inr e
-set_cases (x ∷ xs) (suc n) zero e = inr e
-set_cases (x ∷ xs) (suc n) (suc m) e = elim (set_cases xs n m e) [ inl same ↦ inl (ap suc same) | inr old ↦ inr old ]
+pushed_cases : (xs : List Bool) (x : Bool) (n : ℕ) → get_or (xs ++ x ∷ []) n false ≡ true → (get_or xs n false ≡ true) ⊎ ((n ≡ length xs) × (x ≡ true))
+pushed_cases [] x zero e = inr (refl, e)
+pushed_cases [] x (suc n) e = inl e
+pushed_cases (y ∷ ys) x zero e = inl e
+pushed_cases (y ∷ ys) x (suc n) e = elim (pushed_cases ys x n e) [ inl old ↦ inl old | inr it ↦ inr (ap suc it.0, it.1) ]
 
-pub clear_more : (graph : List (List ℕ)) (clear seen new : List Bool) (targets : List ℕ) (n : ℕ) → AreClear graph clear → targets ≡ targets_of graph n → seen ≡ clear → true ≡ list_all (λ m. get_or seen m false) targets → new ≡ slice_set clear n true → AreClear graph new
-clear_more graph clear seen new targets n h are same all e m marked r = elim (set_cases clear n m (ap (λ xs. get_or xs m false) (sym e) ∙ marked)) [
-  | inl it ↦
-      let next = next_returns graph n (subst (Returns graph) it r) in
-      let known = each_of (λ k. get_or seen k false) targets (sym all) next.0 (subst (λ ts. Contains ts next.0) (sym are) next.1) in
-      h next.0 (ap (λ xs. get_or xs next.0 false) (sym same) ∙ known) next.2
-  | inr old ↦ h m old r
+-- one node more
+pub clear_more : (graph : List (List ℕ)) (clear new : List Bool) (node : ℕ) (risen : Bool) → length clear ≡ node → new ≡ clear ++ risen ∷ [] → (risen ≡ true → Returns graph node → ⊥) → AreClear graph clear → AreClear graph new
+clear_more graph clear new node risen len e is h n marked r = elim (pushed_cases clear risen n (ap (λ xs. get_or xs n false) (sym e) ∙ marked)) [
+  | inl old ↦ h n old r
+  | inr it ↦ is it.1 (subst (Returns graph) (it.0 ∙ len) r)
 ]
 
-none_marked : (n m : ℕ) → get_or (replicate n false) m false ≡ false
-none_marked n m = elim (cases_lt m n) [
-  | inl inside ↦ get_or-replicate n m false false inside
-  | inr past ↦ get_or_past (replicate n false) m false (let len = length-replicate n false in omega (arith, len, past))
-]
+module _ (graph : List (List ℕ)) (ports : List (ℕ × ℕ)) where
+  -- a port whose node returns
+  pub ring_here : (at : ℕ) (d : ℕ × ℕ) → at < length ports → Returns graph at → IsAmong (IsRingAt graph) ports (length ports) (get_or ports at d).0
+  ring_here at d lt r = record { place = at; below = lt; element = get_or ports at d; is = slice_get-get_or ports at d lt; related = (refl, r) }
 
--- none is known yet
-pub clear_none : (graph : List (List ℕ)) (clear : List Bool) (n : ℕ) → clear ≡ replicate n false → AreClear graph clear
-clear_none graph clear n e m marked r = absurd (false≢true (sym (none_marked n m) ∙ ap (λ xs. get_or xs m false) (sym e) ∙ marked))
+  -- one port more
+  pub least_more : (at : ℕ) (d : ℕ × ℕ) (old new : Option ℕ) → at < length ports → ((m : ℕ) → IsAmong (IsRingAt graph) ports at m → HasAtMost old m)
+      → HasLowered (Returns graph at) (get_or ports at d).0 old new → (m : ℕ) → IsAmong (IsRingAt graph) ports (at + 1) m → HasAtMost new m
+  least_more at d old new lt h l m among = elim (among_cases (IsRingAt graph) ports at (get_or ports at d) m (slice_get-get_or ports at d lt) among) [
+    | inl before ↦ l.kept m (h m before)
+    | inr r ↦ subst (HasAtMost new) r.0 (l.least r.1)
+  ]
 
--- one port more
-pub ring_known : (graph : List (List ℕ)) (ports : List (ℕ × ℕ)) (at : ℕ) (d : ℕ × ℕ) (back : Bool) (old new : Option ℕ) → at < length ports → (back ≡ true) ↔ Returns graph at → new ≡ lower back (get_or ports at d).0 old
-    → IsLowest (IsAmong (IsRingAt graph) ports at) old → IsLowest (IsAmong (IsRingAt graph) ports (at + 1)) new
-ring_known graph ports at d back old new lt is f h = subst (IsLowest (IsAmong (IsRingAt graph) ports (at + 1))) (sym f)
-    (lowest_more (IsRingAt graph) ports at (get_or ports at d) back (get_or ports at d).0 old (slice_get-get_or ports at d lt) (λ t. (refl, is.0 t)) (λ m r. (is.1 r.1, r.0)) h)
+  -- all ports
+  pub lowest_at_end : (at : ℕ) (r : Option ℕ) → length ports ≤ at → IfSome r (IsAmong (IsRingAt graph) ports (length ports)) → ((m : ℕ) → IsAmong (IsRingAt graph) ports at m → HasAtMost r m)
+      → IsLowest (IsAmong (IsRingAt graph) ports (length ports)) r
+  lowest_at_end at r le found least = lowest_of_all (IsAmong (IsRingAt graph) ports (length ports)) r found (λ m among. least m ((among_all (IsRingAt graph) ports at m le).1 among))
 
 -- a clear node
 pub not_back : (graph : List (List ℕ)) (clear : List Bool) (n : ℕ) (known : Bool) → AreClear graph clear → known ≡ get_or clear n false → known ≡ true → (false ≡ true) ↔ Returns graph n

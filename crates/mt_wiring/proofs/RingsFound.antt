@@ -1,13 +1,13 @@
 -- The ports whose nodes return to themselves are those on a ring.
-use Rattle.std.proofs.Common.{◌≡◌, ◌↔◌, ℕ, ◌+◌, ◌<◌, ◌⊎◌, inl, inr, List, length, get_or, Option, Bool, true, refl, sym, ◌∙◌, subst, arith}
+use Rattle.std.proofs.Common.{◌≡◌, ◌↔◌, ℕ, ◌⊎◌, inl, inr, List, length, Option, Bool, refl, sym, ◌∙◌, subst, arith}
 use Rattle.std.specs.List.{Contains}
-use Rattle.std.proofs.lemmas.Option.{slice_get-get_or, slice_get_within}
+use Rattle.std.proofs.lemmas.Option.{slice_get_within}
 use Rattle.mt_graph.specs.declared.Wire.{Wire}
 use Rattle.mt_reach.specs.Reach.{targets_of, Reaches, here, on as further, AreBetween}
 use Rattle.mt_wiring.specs.Ways.{target, IsStep, Passes, one, on, OnRing}
-use Rattle.mt_wiring.specs.Pushes.{IsAmong, IsLowest, lower}
+use Rattle.mt_wiring.specs.Pushes.{IsAmong, IsLowest}
 use Rattle.mt_wiring.specs.Numbers.{StandsAt, AreTargets, IsLink, Returns, IsRingAt}
-use Rattle.mt_wiring.proofs.Pushing.{some_same, lowest_as, lowest_more}
+use Rattle.mt_wiring.proofs.Pushing.{some_same, lowest_as}
 use Rattle.mt_wiring.proofs.PortNumbers.{number_of_target}
 
 module _ (leads : ℕ → ℕ → ℕ → Bool) (wires : List Wire) (ports : List (ℕ × ℕ)) where
@@ -79,16 +79,6 @@ module _ (leads : ℕ → ℕ → ℕ → Bool) (wires : List Wire) (ports : Lis
         all (input, way) =
             let n = number_of (element, input) (element, input) way in
             record { place = n.0; below = slice_get_within ports n.0 (element, input) n.1; element = (element, input); is = n.1; related = (refl, returns_from n.0 (element, input) n.1 way) }
-
--- one port more
-pub ring_step : (graph : List (List ℕ)) (ports : List (ℕ × ℕ)) (at : ℕ) (d : ℕ × ℕ) (nodes seen : List ℕ) (back : Bool) (old new : Option ℕ) → at < length ports → seen ≡ nodes
-    → ((n : ℕ) → Contains nodes n → Reaches graph at n) → ((n : ℕ) → Reaches graph at n → Contains nodes n) → (back ≡ true) ↔ ((n : ℕ) × Contains seen n × Contains (targets_of graph n) at)
-    → new ≡ lower back (get_or ports at d).0 old → IsLowest (IsAmong (IsRingAt graph) ports at) old → IsLowest (IsAmong (IsRingAt graph) ports (at + 1)) new
-ring_step graph ports at d nodes seen back old new lt e sound complete is f h = subst (IsLowest (IsAmong (IsRingAt graph) ports (at + 1))) (sym f)
-    (lowest_more (IsRingAt graph) ports at (get_or ports at d) back (get_or ports at d).0 old (slice_get-get_or ports at d lt)
-    (λ t. let m = is.0 t in (refl, record { last = m.0; reached = sound m.0 (subst (λ ns. Contains ns m.0) e m.1); link = m.2 }))
-    (λ m r. (is.1 (r.1.last, subst (λ ns. Contains ns r.1.last) (sym e) (complete r.1.last r.1.reached), r.1.link), r.0))
-    h)
 
 -- the lowest among the ports is the lowest on a ring
 pub lowest_ring : (leads : ℕ → ℕ → ℕ → Bool) (wires : List Wire) (ports keys : List (ℕ × ℕ)) (targets : List ℕ) (graph seen : List (List ℕ)) (links read : List (ℕ × ℕ)) (r : Option ℕ) → keys ≡ ports → seen ≡ graph → read ≡ links

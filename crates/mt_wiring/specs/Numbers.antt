@@ -1,5 +1,5 @@
 -- Input ports by number: the number of a port is its index in a list of ports.
-use Rattle.std.specs.Prelude.{◌≡◌, ℕ, Bool, true, false, List, length, get_or, slice_get, Some, Contains}
+use Rattle.std.specs.Prelude.{◌≡◌, ◌≤◌, ℕ, Bool, true, false, List, length, get_or, slice_get, Some, Contains}
 use Rattle.mt_graph.specs.declared.Wire.{Wire}
 use Rattle.mt_reach.specs.Reach.{targets_of, Reaches}
 use Rattle.mt_wiring.specs.Ways.{target, IsLeft, IsStep}
@@ -46,3 +46,7 @@ IsRingAt graph n port element = (port.0 ≡ element) × Returns graph n
 -- nodes that are known not to be such
 abbrev pub AreClear : List (List ℕ) → List Bool → Type 0
 AreClear graph clear = (n : ℕ) → get_or clear n false ≡ true → Returns graph n → ⊥
+
+-- ranks of nodes that fall along no link
+abbrev pub NeverFall : List (List ℕ) → List ℕ → Type 0
+NeverFall graph ranks = (a b : ℕ) → Contains (targets_of graph a) b → get_or ranks a 0 ≤ get_or ranks b 0

@@ -4,6 +4,7 @@
 
 mod behavior;
 mod clearing;
+mod components;
 pub mod laws;
 mod layers;
 mod leaving;

@@ -1,8 +1,10 @@
 //! Small chains, with elements that the tests make up.
+use crate::clearing::{clear_nodes, is_clear};
 use crate::laws::ranks;
 use crate::{Elements, lowest_clash, lowest_on_ring};
 use mt_graph::Wire;
 use mt_packet::Layer;
+use mt_reach::Targets;
 use std::alloc::{AllocError, Global};
 use std::test::Fail;
 
@@ -153,6 +155,48 @@ fn lowest_at_a_layer_not_taken(rt: HostRuntime) -> Result<(), Fail> {
                     }
                 )
             );
+        }
+    }
+    Ok(())
+}
+
+// A graph whose nodes are told one behind the other by the nodes that their links lead to.
+fn graph_of(alloc: Global, line: &str) -> Result<Vec<Targets>, AllocError> {
+    let mut graph = Vec::new(alloc);
+    for links in line.split('|') {
+        let mut targets = Targets::new(Vec::new(alloc));
+        for target in links.split_whitespace() {
+            targets.push(number(target) as usize)?;
+        }
+        graph.push(targets)?;
+    }
+    Ok(graph)
+}
+
+/// A line has a letter for each node, `r` where it is on a ring, and behind a colon the graph. The others are clear.
+#[test]
+fn nodes_on_no_ring_are_clear(rt: HostRuntime) -> Result<(), Fail> {
+    let cases = "
+-:
+r:0
+--:1|
+-rr:1|2|1
+rr-:1|0 2|
+-rr-rr:1|2|1 3|4|5|4
+-rrrr-:4|2|3 5|1 4|1 5|
+rr-rr-r:1 3|0 4|3|4|3 5|6|6
+----:1 2|3|3|";
+    for case in cases.lines() {
+        if let Some((expected, line)) = case.split_once(':') {
+            let graph = graph_of(rt.alloc(), line)?;
+            let clear = clear_nodes(rt.alloc(), &graph)?;
+            let letters = expected.as_bytes();
+            for node in 0..letters.len() {
+                assert_eq!(rt;
+                    (case, node, is_clear(&clear, node)),
+                    (case, node, letters[node] == b'-')
+                );
+            }
         }
     }
     Ok(())

@@ -1,5 +1,9 @@
-use Rattle.mt_wiring.proofs.RingsCleared.{clear_none}
+use Rattle.std.proofs.Common.{arith}
+use Rattle.mt_wiring.proofs.RingsCleared.{clear_more}
 use Rattle.mt_wiring.proofs.clearing.clear_nodes.Goals as goal
 
-pub loop-start-init : goal.loop-start-init
-loop-start-init c = clear_none c.args.graph.now c.in_ok-clear.clear.items _ (c.in_ok-clear.ensures.items_if_clones_equal (λ y h. h))
+pub loop-node-preserved : goal.loop-node-preserved
+loop-node-preserved c = record {
+  clear = clear_more c.args.graph.now c.loop-node.clear.items c.push.new.self.items c.loop-node.node c.rises.result c.loop-node.invariant.len c.in_ok-push.ensures.items c.rises.ensures c.loop-node.invariant.clear;
+  len = let e = c.in_ok-push.ensures.len in let len = c.loop-node.invariant.len in omega (arith, e, len);
+}
