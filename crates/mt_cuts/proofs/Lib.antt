@@ -1,3 +1,4 @@
+mod Apart
 mod Boxed
 mod Fields
 mod Finished

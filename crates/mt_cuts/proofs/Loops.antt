@@ -10,7 +10,7 @@ use Rattle.mt_cuts.specs.View.{tree_of, chain, last_part}
 use Rattle.mt_cuts.specs.Canonical.{IsRest, last_of, finishes, all_true}
 use Rattle.mt_cuts.specs.Walk.{top, earlier, IsPlace, first_end, ends_at, put, Joined}
 use Rattle.mt_cuts.proofs.Walks.{Stands, begins, Ends, stands_place, stands_part, stands_end, stands_value, stands_behind, later_alone}
-use Rattle.mt_cuts.proofs.Merging.{Merging, merging_begins, merging_goes_on, merging_more, merging_ends}
+use Rattle.mt_cuts.proofs.Merging.{Merging, merging_begins, merging_goes_on, merging_more, merging_weaker, merging_ends}
 use Rattle.mt_cuts.proofs.Finished.{all_finish_more}
 
 -- a place whose first part goes up to an end at least
@@ -73,47 +73,50 @@ least_of_three d f from i j k a b c =
       ];
     }
 
--- what a choice makes of the values of three trees
-abbrev pub chosen : (ℕ → ℕ → ℕ → ℕ) → Tree → Tree → Tree → (Field → ℕ) → ℕ
-chosen choose a b c h = choose (value_of a h) (value_of b h) (value_of c h)
+-- a value is chosen of those of three trees
+abbrev pub Chosen : (ℕ → ℕ → ℕ → ℕ → Type 0) → Tree → Tree → Tree → (Field → ℕ) → ℕ → Type 0
+Chosen C a b c h n = C (value_of a h) (value_of b h) (value_of c h) n
+
+-- what was chosen stays so
+abbrev pub Keeps : (ℕ → ℕ → ℕ → ℕ → Type 0) → (ℕ → ℕ → ℕ → ℕ → Type 0) → Type 0
+Keeps C D = (x y z n : ℕ) → C x y z n → D x y z n
 
 -- a merge of the first parts has the wanted values up to the least end
-pub part_means : (d : ℕ) (f : Field) (from end : ℕ) (choose : ℕ → ℕ → ℕ → ℕ) (a b c : Tree) (xe ye ze : List ℕ) (xp yp zp : List Cut) (p q r : Cut) (part : Tree)
+pub part_means : (d : ℕ) (f : Field) (from end : ℕ) (C : ℕ → ℕ → ℕ → ℕ → Type 0) (a b c : Tree) (xe ye ze : List ℕ) (xp yp zp : List Cut) (p q r : Cut) (part : Tree)
     → Stands d f from a xe (map tree_of xp) → Stands d f from b ye (map tree_of yp) → Stands d f from c ze (map tree_of zp)
     → slice_get xp 0 ≡ Some p → slice_get yp 0 ≡ Some q → slice_get zp 0 ≡ Some r
     → end ≤ first_end (last_of d f) xe xp → end ≤ first_end (last_of d f) ye yp → end ≤ first_end (last_of d f) ze zp
-    → ((h : Field → ℕ) → value_of part h ≡ chosen choose (tree_of p) (tree_of q) (tree_of r) h)
-    → (h : Field → ℕ) → from ≤ h f → (end < last_of d f → h f ≤ end) → value_of part h ≡ chosen choose a b c h
-part_means d f from end choose a b c xe ye ze xp yp zp p q r part x y z i j k le le' le'' means h low covered =
-    means h ∙ sym (three (first_value d f from a xe xp p end x i le h low covered) (first_value d f from b ye yp q end y j le' h low covered) (first_value d f from c ze zp r end z k le'' h low covered))
-  where
-    three : {u u' v v' w w' : ℕ} → u ≡ u' → v ≡ v' → w ≡ w' → choose u v w ≡ choose u' v' w'
-    three s t u = cc
+    → ((h : Field → ℕ) → Chosen C (tree_of p) (tree_of q) (tree_of r) h (value_of part h))
+    → (h : Field → ℕ) → from ≤ h f → (end < last_of d f → h f ≤ end) → Chosen C a b c h (value_of part h)
+part_means d f from end C a b c xe ye ze xp yp zp p q r part x y z i j k le le' le'' means h low covered =
+    subst (λ (u : ℕ). C u (value_of b h) (value_of c h) (value_of part h)) (sym (first_value d f from a xe xp p end x i le h low covered))
+    (subst (λ (u : ℕ). C (value_of (tree_of p) h) u (value_of c h) (value_of part h)) (sym (first_value d f from b ye yp q end y j le' h low covered))
+    (subst (λ (u : ℕ). C (value_of (tree_of p) h) (value_of (tree_of q) h) u (value_of part h)) (sym (first_value d f from c ze zp r end z k le'' h low covered)) (means h)))
 
-pub record Loop (d : ℕ) (f : Field) (F : (Field → ℕ) → ℕ) (a b c : Tree) (xe ye ze : List ℕ) (xp yp zp : List Cut) (ends : List ℕ) (parts : List Cut) (here : Cut) (end : ℕ) : Type 0 where
+pub record Loop (d : ℕ) (f : Field) (P : (Field → ℕ) → ℕ → Type 0) (a b c : Tree) (xe ye ze : List ℕ) (xp yp zp : List Cut) (ends : List ℕ) (parts : List Cut) (here : Cut) (end : ℕ) : Type 0 where
   pub x : At d f end a xe xp
   pub y : At d f end b ye yp
   pub z : At d f end c ze zp
-  pub made : Merging d f F ends (map tree_of parts) (tree_of here) end
+  pub made : Merging d f P ends (map tree_of parts) (tree_of here) end
   pub parts_finish : all_true (map (finishes d) parts) ≡ true
   pub here_finishes : finishes d here ≡ true
 
-pub loop_begins : (d : ℕ) (f : Field) (choose : ℕ → ℕ → ℕ → ℕ) (a b c : Tree) (xe ye ze : List ℕ) (xp yp zp : List Cut) (ends : List ℕ) (parts : List Cut) (here p q r : Cut) (end : ℕ)
+pub loop_begins : (d : ℕ) (f : Field) (C : ℕ → ℕ → ℕ → ℕ → Type 0) (a b c : Tree) (xe ye ze : List ℕ) (xp yp zp : List Cut) (ends : List ℕ) (parts : List Cut) (here p q r : Cut) (end : ℕ)
     → Stands d f 0 a xe (map tree_of xp) → Stands d f 0 b ye (map tree_of yp) → Stands d f 0 c ze (map tree_of zp)
     → slice_get xp 0 ≡ Some p → slice_get yp 0 ≡ Some q → slice_get zp 0 ≡ Some r
     → end ≡ min (first_end (last_of d f) xe xp) (min (first_end (last_of d f) ye yp) (first_end (last_of d f) ze zp))
-    → IsRest d (suc (number_of f)) 0 (tree_of here) → ((h : Field → ℕ) → value_of (tree_of here) h ≡ chosen choose (tree_of p) (tree_of q) (tree_of r) h) → finishes d here ≡ true
-    → ends ≡ [] → parts ≡ [] → Loop d f (chosen choose a b c) a b c xe ye ze xp yp zp ends parts here end
-loop_begins d f choose a b c xe ye ze xp yp zp ends parts here p q r end x y z i j k is later means ends_well es ps =
+    → IsRest d (suc (number_of f)) 0 (tree_of here) → ((h : Field → ℕ) → Chosen C (tree_of p) (tree_of q) (tree_of r) h (value_of (tree_of here) h)) → finishes d here ≡ true
+    → ends ≡ [] → parts ≡ [] → Loop d f (Chosen C a b c) a b c xe ye ze xp yp zp ends parts here end
+loop_begins d f C a b c xe ye ze xp yp zp ends parts here p q r end x y z i j k is later means ends_well es ps =
     let e = least_of_three d f 0 _ _ _ (first_ends d f 0 a xe xp x (omega arith)) (first_ends d f 0 b ye yp y (omega arith)) (first_ends d f 0 c ze zp z (omega arith)) in
     let e' = subst (Ends d f 0) (sym is) e in
-    let made = merging_begins d f (chosen choose a b c) (tree_of here) end e' later
-    (part_means d f 0 end choose a b c xe ye ze xp yp zp p q r (tree_of here) x y z i j k (omega (arith, is)) (omega (arith, is)) (omega (arith, is)) means) in
+    let made = merging_begins d f (Chosen C a b c) (tree_of here) end e' later
+    (part_means d f 0 end C a b c xe ye ze xp yp zp p q r (tree_of here) x y z i j k (omega (arith, is)) (omega (arith, is)) (omega (arith, is)) means) in
     record {
       x = record { from = 0; stands = x; low = omega arith; high = omega (arith, is) };
       y = record { from = 0; stands = y; low = omega arith; high = omega (arith, is) };
       z = record { from = 0; stands = z; low = omega arith; high = omega (arith, is) };
-      made = subst (λ (es : List ℕ). Merging d f (chosen choose a b c) es (map tree_of parts) (tree_of here) end) (sym es) (subst (λ (ps : List Cut). Merging d f (chosen choose a b c) [] (map tree_of ps) (tree_of here) end) (sym ps) made);
+      made = subst (λ (es : List ℕ). Merging d f (Chosen C a b c) es (map tree_of parts) (tree_of here) end) (sym es) (subst (λ (ps : List Cut). Merging d f (Chosen C a b c) [] (map tree_of ps) (tree_of here) end) (sym ps) made);
       parts_finish = subst (λ (ps : List Cut). all_true (map (finishes d) ps) ≡ true) (sym ps) refl;
       here_finishes = ends_well;
     }
@@ -122,18 +125,18 @@ map_more : (xs : List Cut) (x : Cut) → map tree_of (xs ++ x ∷ []) ≡ map tr
 map_more [] x = refl
 map_more (y ∷ ys) x = ap (λ zs. tree_of y ∷ zs) (map_more ys x)
 
-pub loop_goes : (d : ℕ) (f : Field) (choose : ℕ → ℕ → ℕ → ℕ) (a b c : Tree) (xe ye ze xe' ye' ze' : List ℕ) (xp yp zp xp' yp' zp' : List Cut) (ends ends' : List ℕ) (parts parts' : List Cut) (here here' part p q r : Cut) (end end' : ℕ)
-    → Loop d f (chosen choose a b c) a b c xe ye ze xp yp zp ends parts here end → end < last_of d f
+pub loop_goes : (d : ℕ) (f : Field) (C : ℕ → ℕ → ℕ → ℕ → Type 0) (a b c : Tree) (xe ye ze xe' ye' ze' : List ℕ) (xp yp zp xp' yp' zp' : List Cut) (ends ends' : List ℕ) (parts parts' : List Cut) (here here' part p q r : Cut) (end end' : ℕ)
+    → Loop d f (Chosen C a b c) a b c xe ye ze xp yp zp ends parts here end → end < last_of d f
     → Stands d f (suc end) a xe' (map tree_of xp') → Stands d f (suc end) b ye' (map tree_of yp') → Stands d f (suc end) c ze' (map tree_of zp')
     → slice_get xp' 0 ≡ Some p → slice_get yp' 0 ≡ Some q → slice_get zp' 0 ≡ Some r
-    → IsRest d (suc (number_of f)) 0 (tree_of part) → ((h : Field → ℕ) → value_of (tree_of part) h ≡ chosen choose (tree_of p) (tree_of q) (tree_of r) h) → finishes d part ≡ true
+    → IsRest d (suc (number_of f)) 0 (tree_of part) → ((h : Field → ℕ) → Chosen C (tree_of p) (tree_of q) (tree_of r) h (value_of (tree_of part) h)) → finishes d part ≡ true
     → Joined ends parts ends' parts' here end part here'
     → end' ≡ min (first_end (last_of d f) xe' xp') (min (first_end (last_of d f) ye' yp') (first_end (last_of d f) ze' zp'))
-    → Loop d f (chosen choose a b c) a b c xe' ye' ze' xp' yp' zp' ends' parts' here' end'
-loop_goes d f choose a b c xe ye ze xe' ye' ze' xp yp zp xp' yp' zp' ends ends' parts parts' here here' part p q r end end' l lt x y z i j k later means well joined is =
+    → Loop d f (Chosen C a b c) a b c xe' ye' ze' xp' yp' zp' ends' parts' here' end'
+loop_goes d f C a b c xe ye ze xe' ye' ze' xp yp zp xp' yp' zp' ends ends' parts parts' here here' part p q r end end' l lt x y z i j k later means well joined is =
     let e = least_of_three d f (suc end) _ _ _ (first_ends d f (suc end) a xe' xp' x (omega arith)) (first_ends d f (suc end) b ye' yp' y (omega arith)) (first_ends d f (suc end) c ze' zp' z (omega arith)) in
     let e' = subst (Ends d f (suc end)) (sym is) e in
-    let covered = part_means d f (suc end) end' choose a b c xe' ye' ze' xp' yp' zp' p q r (tree_of part) x y z i j k (omega (arith, is)) (omega (arith, is)) (omega (arith, is)) means in
+    let covered = part_means d f (suc end) end' C a b c xe' ye' ze' xp' yp' zp' p q r (tree_of part) x y z i j k (omega (arith, is)) (omega (arith, is)) (omega (arith, is)) means in
     let places : (At d f end' a xe' xp' × At d f end' b ye' yp') × At d f end' c ze' zp' = (
       (
         record { from = suc end; stands = x; low = e'.from_start; high = omega (arith, is) },
@@ -147,7 +150,7 @@ loop_goes d f choose a b c xe ye ze xe' ye' ze' xp yp zp xp' yp' zp' ends ends' 
             x = places.0.0;
             y = places.0.1;
             z = places.1;
-            made = same_lists j.1 j.2 j.3 (merging_goes_on d f (chosen choose a b c) ends (map tree_of parts) (tree_of here) (tree_of part) end end' l.made lt e' j.0 covered);
+            made = same_lists j.1 j.2 j.3 (merging_goes_on d f (Chosen C a b c) ends (map tree_of parts) (tree_of here) (tree_of part) end end' l.made lt e' j.0 covered);
             parts_finish = subst (λ (ps : List Cut). all_true (map (finishes d) ps) ≡ true) (sym j.2) l.parts_finish;
             here_finishes = subst (λ (t : Cut). finishes d t ≡ true) (sym j.3) l.here_finishes;
           }
@@ -156,23 +159,23 @@ loop_goes d f choose a b c xe ye ze xe' ye' ze' xp yp zp xp' yp' zp' ends ends' 
             x = places.0.0;
             y = places.0.1;
             z = places.1;
-            made = more_lists j.1 j.2 j.3 (merging_more d f (chosen choose a b c) ends (map tree_of parts) (tree_of here) (tree_of part) end end' l.made lt e' j.0 later covered);
+            made = more_lists j.1 j.2 j.3 (merging_more d f (Chosen C a b c) ends (map tree_of parts) (tree_of here) (tree_of part) end end' l.made lt e' j.0 later covered);
             parts_finish = subst (λ (ps : List Cut). all_true (map (finishes d) ps) ≡ true) (sym j.2) (all_finish_more d parts here l.parts_finish l.here_finishes);
             here_finishes = subst (λ (t : Cut). finishes d t ≡ true) (sym j.3) well;
           }
     ]
   where
-    same_lists : ends' ≡ ends → parts' ≡ parts → here' ≡ here → Merging d f (chosen choose a b c) ends (map tree_of parts) (tree_of here) end' → Merging d f (chosen choose a b c) ends' (map tree_of parts') (tree_of here') end'
+    same_lists : ends' ≡ ends → parts' ≡ parts → here' ≡ here → Merging d f (Chosen C a b c) ends (map tree_of parts) (tree_of here) end' → Merging d f (Chosen C a b c) ends' (map tree_of parts') (tree_of here') end'
     same_lists es ps h m =
-        subst (λ (es : List ℕ). Merging d f (chosen choose a b c) es (map tree_of parts') (tree_of here') end') (sym es)
-        (subst (λ (ps : List Cut). Merging d f (chosen choose a b c) ends (map tree_of ps) (tree_of here') end') (sym ps)
-        (subst (λ (t : Cut). Merging d f (chosen choose a b c) ends (map tree_of parts) (tree_of t) end') (sym h) m))
+        subst (λ (es : List ℕ). Merging d f (Chosen C a b c) es (map tree_of parts') (tree_of here') end') (sym es)
+        (subst (λ (ps : List Cut). Merging d f (Chosen C a b c) ends (map tree_of ps) (tree_of here') end') (sym ps)
+        (subst (λ (t : Cut). Merging d f (Chosen C a b c) ends (map tree_of parts) (tree_of t) end') (sym h) m))
 
-    more_lists : ends' ≡ ends ++ end ∷ [] → parts' ≡ parts ++ here ∷ [] → here' ≡ part → Merging d f (chosen choose a b c) (ends ++ end ∷ []) (map tree_of parts ++ tree_of here ∷ []) (tree_of part) end' → Merging d f (chosen choose a b c) ends' (map tree_of parts') (tree_of here') end'
+    more_lists : ends' ≡ ends ++ end ∷ [] → parts' ≡ parts ++ here ∷ [] → here' ≡ part → Merging d f (Chosen C a b c) (ends ++ end ∷ []) (map tree_of parts ++ tree_of here ∷ []) (tree_of part) end' → Merging d f (Chosen C a b c) ends' (map tree_of parts') (tree_of here') end'
     more_lists es ps h m =
-        subst (λ (es : List ℕ). Merging d f (chosen choose a b c) es (map tree_of parts') (tree_of here') end') (sym es)
-        (subst (λ (ts : List Tree). Merging d f (chosen choose a b c) (ends ++ end ∷ []) ts (tree_of here') end') (sym (ap (map tree_of) ps ∙ map_more parts here))
-        (subst (λ (t : Cut). Merging d f (chosen choose a b c) (ends ++ end ∷ []) (map tree_of parts ++ tree_of here ∷ []) (tree_of t) end') (sym h) m))
+        subst (λ (es : List ℕ). Merging d f (Chosen C a b c) es (map tree_of parts') (tree_of here') end') (sym es)
+        (subst (λ (ts : List Tree). Merging d f (Chosen C a b c) (ends ++ end ∷ []) ts (tree_of here') end') (sym (ap (map tree_of) ps ∙ map_more parts here))
+        (subst (λ (t : Cut). Merging d f (Chosen C a b c) (ends ++ end ∷ []) (map tree_of parts ++ tree_of here ∷ []) (tree_of t) end') (sym h) m))
 
 -- the fields that three trees cut first
 NotBefore : Field → Option Field → Type 0
@@ -272,13 +275,13 @@ pub record Moved (d : ℕ) (f : Field) (end : ℕ) (a b c : Tree) (xe ye ze : Li
   pub y : Stands d f (suc end) b ye (map tree_of yp)
   pub z : Stands d f (suc end) c ze (map tree_of zp)
 
-pub moves : (d : ℕ) (f : Field) (F : (Field → ℕ) → ℕ) (a b c : Tree) (xe ye ze xe' ye' ze' : List ℕ) (xp yp zp xp' yp' zp' : List Cut) (ends : List ℕ) (parts : List Cut) (here : Cut) (end : ℕ)
-    → Loop d f F a b c xe ye ze xp yp zp ends parts here end → end < last_of d f
+pub moves : (d : ℕ) (f : Field) (P : (Field → ℕ) → ℕ → Type 0) (a b c : Tree) (xe ye ze xe' ye' ze' : List ℕ) (xp yp zp xp' yp' zp' : List Cut) (ends : List ℕ) (parts : List Cut) (here : Cut) (end : ℕ)
+    → Loop d f P a b c xe ye ze xp yp zp ends parts here end → end < last_of d f
     → xe' ≡ cond (ends_at end xe xp) (drop 1 xe) xe → xp' ≡ cond (ends_at end xe xp) (drop 1 xp) xp
     → ye' ≡ cond (ends_at end ye yp) (drop 1 ye) ye → yp' ≡ cond (ends_at end ye yp) (drop 1 yp) yp
     → ze' ≡ cond (ends_at end ze zp) (drop 1 ze) ze → zp' ≡ cond (ends_at end ze zp) (drop 1 zp) zp
     → Moved d f end a b c xe' ye' ze' xp' yp' zp'
-moves d f F a b c xe ye ze xe' ye' ze' xp yp zp xp' yp' zp' ends parts here end l lt ex px ey py ez pz =
+moves d f P a b c xe ye ze xe' ye' ze' xp yp zp xp' yp' zp' ends parts here end l lt ex px ey py ez pz =
     record { x = at_behind d f end a xe xe' xp xp' l.x lt ex px; y = at_behind d f end b ye ye' yp yp' l.y lt ey py; z = at_behind d f end c ze ze' zp zp' l.z lt ez pz }
 
 pub least_above : (d : ℕ) (f : Field) (end end' : ℕ) (a b c : Tree) (xe ye ze : List ℕ) (xp yp zp : List Cut) → Moved d f end a b c xe ye ze xp yp zp → end < last_of d f
@@ -296,19 +299,19 @@ settled_rest d k f broken le r = r
 settled_rest d k f (cut g e low high) le r =
     record { rises = omega (arith, r.rises); from_least = r.from_least; goes_on = λ same. omega arith; before_last = r.before_last; low_rest = r.low_rest; high_rest = r.high_rest; apart = r.apart }
 
-pub loop_ends : (d k : ℕ) (f : Field) (F : (Field → ℕ) → ℕ) (a b c : Tree) (xe ye ze : List ℕ) (xp yp zp : List Cut) (ends : List ℕ) (parts : List Cut) (here : Cut) (end : ℕ)
-    → Loop d f F a b c xe ye ze xp yp zp ends parts here end → last_of d f ≤ end → k ≤ number_of f → (t : Tree) → t ≡ put f ends (map tree_of parts) (tree_of here) → IsRest d k 0 t × ((h : Field → ℕ) → value_of t h ≡ F h)
-loop_ends d k f F a b c xe ye ze xp yp zp ends parts here end l whole le t is =
-    let facts = merging_ends d f F ends (map tree_of parts) (tree_of here) end l.made whole in
-    (settled_rest d k f t le (subst (IsRest d (number_of f) 0) (sym is) facts.0), λ h. ap (λ (t : Tree). value_of t h) is ∙ facts.1 h)
+pub loop_ends : (d k : ℕ) (f : Field) (P : (Field → ℕ) → ℕ → Type 0) (a b c : Tree) (xe ye ze : List ℕ) (xp yp zp : List Cut) (ends : List ℕ) (parts : List Cut) (here : Cut) (end : ℕ)
+    → Loop d f P a b c xe ye ze xp yp zp ends parts here end → last_of d f ≤ end → k ≤ number_of f → (t : Tree) → t ≡ put f ends (map tree_of parts) (tree_of here) → IsRest d k 0 t × ((h : Field → ℕ) → P h (value_of t h))
+loop_ends d k f P a b c xe ye ze xp yp zp ends parts here end l whole le t is =
+    let facts = merging_ends d f P ends (map tree_of parts) (tree_of here) end l.made whole in
+    (settled_rest d k f t le (subst (IsRest d (number_of f) 0) (sym is) facts.0), λ h. subst (λ (t : Tree). P h (value_of t h)) (sym is) (facts.1 h))
 
-pub loop_lengths : (d : ℕ) (f : Field) (F : (Field → ℕ) → ℕ) (a b c : Tree) (xe ye ze : List ℕ) (xp yp zp : List Cut) (ends : List ℕ) (parts : List Cut) (here : Cut) (end : ℕ)
-    → Loop d f F a b c xe ye ze xp yp zp ends parts here end → length ends ≡ length parts
-loop_lengths d f F a b c xe ye ze xp yp zp ends parts here end l = l.made.as_many ∙ length-map parts tree_of
+pub loop_lengths : (d : ℕ) (f : Field) (P : (Field → ℕ) → ℕ → Type 0) (a b c : Tree) (xe ye ze : List ℕ) (xp yp zp : List Cut) (ends : List ℕ) (parts : List Cut) (here : Cut) (end : ℕ)
+    → Loop d f P a b c xe ye ze xp yp zp ends parts here end → length ends ≡ length parts
+loop_lengths d f P a b c xe ye ze xp yp zp ends parts here end l = l.made.as_many ∙ length-map parts tree_of
 
-pub loop_alone : (d : ℕ) (f : Field) (F : (Field → ℕ) → ℕ) (a b c : Tree) (xe ye ze : List ℕ) (xp yp zp : List Cut) (ends : List ℕ) (parts : List Cut) (here : Cut) (end : ℕ)
-    → Loop d f F a b c xe ye ze xp yp zp ends parts here end → last_part f (tree_of here) ≡ tree_of here
-loop_alone d f F a b c xe ye ze xp yp zp ends parts here end l = later_alone d f (tree_of here) l.made.later
+pub loop_alone : (d : ℕ) (f : Field) (P : (Field → ℕ) → ℕ → Type 0) (a b c : Tree) (xe ye ze : List ℕ) (xp yp zp : List Cut) (ends : List ℕ) (parts : List Cut) (here : Cut) (end : ℕ)
+    → Loop d f P a b c xe ye ze xp yp zp ends parts here end → last_part f (tree_of here) ≡ tree_of here
+loop_alone d f P a b c xe ye ze xp yp zp ends parts here end l = later_alone d f (tree_of here) l.made.later
 
 -- what holds of a result
 pub if_ok : {A E : Type 0} (r : Result A E) (P Q : A → Type 0) → ((x : A) → P x → Q x) → IfOk r P → IfOk r Q
@@ -317,3 +320,16 @@ if_ok (Err e) P Q step h = h
 
 pub whole : {last field_last end : ℕ} → last ≡ field_last → last ≤ end → field_last ≤ end
 whole is le = omega arith
+
+-- what was chosen before a choice more
+pub loop_keeps : (d : ℕ) (f : Field) (C D : ℕ → ℕ → ℕ → ℕ → Type 0) (a b c : Tree) (xe ye ze : List ℕ) (xp yp zp : List Cut) (ends : List ℕ) (parts : List Cut) (here : Cut) (end : ℕ)
+    → Keeps C D → Loop d f (Chosen C a b c) a b c xe ye ze xp yp zp ends parts here end → Loop d f (Chosen D a b c) a b c xe ye ze xp yp zp ends parts here end
+loop_keeps d f C D a b c xe ye ze xp yp zp ends parts here end keeps l =
+    record {
+      x = l.x;
+      y = l.y;
+      z = l.z;
+      made = merging_weaker d f (Chosen C a b c) (Chosen D a b c) ends (map tree_of parts) (tree_of here) end (λ h n chosen. keeps (value_of a h) (value_of b h) (value_of c h) n chosen) l.made;
+      parts_finish = l.parts_finish;
+      here_finishes = l.here_finishes;
+    }

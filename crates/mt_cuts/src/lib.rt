@@ -4,14 +4,17 @@
 #![tactic(auto)]
 
 mod choice;
+mod chooser;
 mod cursor;
 mod cut;
 mod domain;
 pub mod laws;
 mod leaves;
 mod merged;
+mod pairs;
 mod parts;
 mod same;
+mod selected;
 mod spans;
 #[cfg(test)]
 mod tests;
@@ -22,5 +25,7 @@ pub use cut::Cut;
 pub use domain::{last_of, least_of};
 pub use leaves::Leaf;
 pub use merged::{merge, merge_three};
+pub use pairs::product;
 pub use same::is_same_function;
+pub use selected::select;
 pub use spans::split;

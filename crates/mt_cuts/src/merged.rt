@@ -1,5 +1,5 @@
 //! Merges of trees.
-ghost use Rattle.std.specs.Prelude.{◌≡◌, ℕ, true, IfOk, min};
+ghost use Rattle.std.specs.Prelude.{◌≡◌, ℕ, true, IfOk, OnOk, min};
 ghost use Rattle.mt_packet.specs.Header.{number_of};
 ghost use Rattle.mt_packet.specs.declared.field.Field.{Field};
 ghost use Rattle.mt_cuts.specs.Tree.{value_of};
@@ -8,6 +8,7 @@ ghost use Rattle.mt_cuts.specs.Canonical.{IsRest, IsCanonical, finishes};
 ghost use Rattle.mt_cuts.specs.Walk.{IsPlace, first_end};
 
 use crate::choice::{Choice, Combine, OfTwo};
+use crate::chooser::{ByFunction, Chooser};
 use crate::cursor::{Cursor, earlier};
 use crate::cut::Cut;
 use crate::domain::last_of;
@@ -27,25 +28,27 @@ fn least_end(x: &Cursor<'_>, y: &Cursor<'_>, z: &Cursor<'_>, last: u64) -> u64
 
 /// The merge of three trees that cut none of the first fields. It walks the parts of the field that one of
 /// them cuts first side by side, so it costs what it makes.
-fn merge_behind<F: Choice>(
+pub(crate) fn merge_behind<F: Chooser>(
     alloc: Global,
     devices: u32,
     settled: usize,
     a: &Cut,
     b: &Cut,
     c: &Cut,
-    choice: &F,
+    choice: &mut F,
 ) -> Result<Cut, AllocError>
     requires first { IsRest devices settled 0 (tree_of a.now) }
     requires second { IsRest devices settled 0 (tree_of b.now) }
     requires third { IsRest devices settled 0 (tree_of c.now) }
     ensures canonical { IfOk result (λ tree. IsRest devices settled 0 (tree_of tree)) }
-    ensures value { IfOk result (λ tree. (header : Field → ℕ) → value_of (tree_of tree) header
-        ≡ F.choice choice.now (value_of (tree_of a.now) header) (value_of (tree_of b.now) header) (value_of (tree_of c.now) header)) }
+    ensures value { IfOk result (λ tree. (header : Field → ℕ) → F.chooses choice.new
+        (value_of (tree_of a.now) header) (value_of (tree_of b.now) header) (value_of (tree_of c.now) header) (value_of (tree_of tree) header)) }
+    ensures keeps { OnOk result ((x y z value : ℕ) → F.chooses choice.old x y z value → F.chooses choice.new x y z value) }
     ensures finishes { IfOk result (λ tree. finishes devices tree ≡ true) }
 {
     let Some(field) = earlier(a.top(), earlier(b.top(), c.top())) else {
-        return Ok(Cut::Class(choice.choose(a.class(), b.class(), c.class())));
+        let value = choice.choose(a.class(), b.class(), c.class())?;
+        return Ok(Cut::Class(value));
     };
     let last = last_of(devices, field);
     let mut x = a.parts_at(field);
@@ -102,7 +105,8 @@ pub fn merge_three<F: Choice>(
         ≡ F.choice choice.now (value_of (tree_of a.now) header) (value_of (tree_of b.now) header) (value_of (tree_of c.now) header)) }
     ensures finishes { IfOk result (λ tree. finishes devices tree ≡ true) }
 {
-    merge_behind(alloc, devices, 0, a, b, c, choice)
+    let mut by_function = ByFunction { function: choice };
+    merge_behind(alloc, devices, 0, a, b, c, &mut by_function)
 }
 
 /// The tree that gives each header what a function makes of the values of two trees.
@@ -121,5 +125,5 @@ pub fn merge<F: Combine>(
     ensures finishes { IfOk result (λ tree. finishes devices tree ≡ true) }
 {
     let none = Cut::leaf(0);
-    merge_behind(alloc, devices, 0, a, b, &none, &OfTwo { function })
+    merge_three(alloc, devices, a, b, &none, &OfTwo { function })
 }

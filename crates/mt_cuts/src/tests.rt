@@ -1,7 +1,7 @@
 ghost use Rattle.mt_cuts.specs.View.{tree_of};
 ghost use Rattle.mt_cuts.specs.Canonical.{IsCanonical};
 
-use crate::{Combine, Cut, is_same_function, merge, split};
+use crate::{Combine, Cut, is_same_function, merge, product, select, split};
 use mt_packet::{Field, Frame, Header, Span};
 use std::alloc::{AllocError, Global};
 
@@ -169,5 +169,40 @@ fn trees_are_merged_and_neighbours_join(rt: HostRuntime) {
     assert_eq!(rt;
         got.as_str(),
         "Cuts { field: Ttl, ends: [20, 255], next: [Class(1), Class(0)] } Cuts { field: Ttl, ends: [20, 255], next: [Class(1), Class(0)] } Cuts { field: Ttl, ends: [9, 255], next: [Class(1), Class(0)] } Cuts { field: Ttl, ends: [9, 20, 255], next: [Class(0), Class(1), Class(0)] } true false 0-9:0 10-20:1 21-255:0"
+    );
+}
+
+/// The product of two trees that overlap, that of a tree with itself, and one of two trees where a third is 1.
+fn paired(alloc: Global) -> Result<String, AllocError> {
+    let low = split(
+        alloc,
+        1,
+        Field::Ttl,
+        Span { lo: 0, hi: 9 },
+        &Cut::leaf(3),
+        &Cut::leaf(0),
+    )?;
+    let high = split(
+        alloc,
+        1,
+        Field::Ttl,
+        Span { lo: 5, hi: 20 },
+        &Cut::leaf(1),
+        &Cut::leaf(0),
+    )?;
+    let (both, pairs) = product(alloc, 1, &low, &high)?;
+    let (same, met) = product(alloc, 1, &high, &high)?;
+    let one = select(alloc, 1, &high, &low, Cut::leaf(7))?;
+    format!(in alloc; "{both:?} {pairs:?} {same:?} {met:?} {one:?}")
+}
+
+/// A pair that is met again keeps its number.
+#[test]
+fn pairs_are_numbered_as_they_are_met(rt: HostRuntime) {
+    let alloc = rt.alloc();
+    let got = paired(alloc).expect(&rt, "memory");
+    assert_eq!(rt;
+        got.as_str(),
+        "Cuts { field: Ttl, ends: [4, 9, 20, 255], next: [Class(0), Class(1), Class(2), Class(3)] } [(3, 0), (3, 1), (0, 1), (0, 0)] Cuts { field: Ttl, ends: [4, 20, 255], next: [Class(0), Class(1), Class(0)] } [(0, 0), (1, 1)] Cuts { field: Ttl, ends: [4, 9, 20, 255], next: [Class(7), Class(3), Class(0), Class(7)] }"
     );
 }
