@@ -1,15 +1,18 @@
 //! A chain that was accepted: its elements, where their outputs lead, its devices, pools and mappers.
 ghost use Rattle.std.specs.Prelude.{◌≡◌, ◌<◌, ◌≤◌, ◌^◌, ℕ, suc, length, map, position, slice_get, Option, Some, IfOk};
 ghost use Rattle.std.specs.List.{All};
-ghost use Rattle.mt_elements.specs.Accepted.{IsAccepted};
+ghost use Rattle.mt_elements.specs.Accepted.{IsAccepted, behavior_of};
 ghost use Rattle.mt_elements.specs.ChainState.{entry_of, is_entry, mappers_of, next_of, specs_in};
 ghost use Rattle.mt_elements.specs.Kept.{AreArrivals};
 ghost use Rattle.mt_elements.specs.Numbered.{IsNumbered};
 ghost use Rattle.mt_elements.specs.Table.{IsTable};
+ghost use Rattle.mt_kinds.specs.Ports.{output_count};
+ghost use Rattle.mt_kinds.specs.declared.kind.Kind.{Kind};
 
 use crate::layout::Layout;
-use mt_kinds::{Kind, Pool, Spec, Templates};
+use mt_kinds::{Kind, Pool, Spec, Templates, output_count};
 use mt_text::Text;
+use mt_wiring::Elements;
 use std::alloc::{AllocError, Global};
 use std::marker::Model;
 
@@ -115,6 +118,21 @@ impl Chain {
     {
         let row = self.table.get(element as usize)?;
         *row.get(out as usize)?
+    }
+
+    /// How many outputs an element has; those of a `PaintSwitch` are not counted.
+    pub fn outputs(&self, element: u32) -> u32
+        requires { element < length self.now.kinds }
+        ensures { (kind : Kind) → slice_get self.now.kinds element ≡ Some kind → result ≡ output_count (mappers_of self.now.kinds) kind 0 }
+    {
+        output_count(self.layout.mappers(), self.kind(element), 0)
+    }
+
+    /// Whether a packet that enters an element by an input can leave it by an output; false where the element is not there.
+    pub fn leads(&self, element: u32, input: u32, out: u32) -> bool
+        ensures { result ≡ (behavior_of self.now.kinds).leads element input out }
+    {
+        self.layout.leads(element, input, out)
     }
 
     /// The number of wires.

@@ -1,7 +1,8 @@
 -- The laws of trees.
 use Rattle.std.specs.Prelude.{◌≡◌, ℕ, suc, ◌<◌, ◌≤◌, false, List, [], ◌∷◌, Some, Ok}
-use Rattle.mt_packet.specs.Header.{AreBytes, header_of, number_of}
+use Rattle.mt_packet.specs.Header.{AreBytes, field_of, header_of, number_of}
 use Rattle.mt_packet.specs.Packet.{arrived}
+use Rattle.mt_packet.specs.declared.field.Field.TheVariants.{Device}
 use Rattle.mt_elements.specs.Accepted.{IsAccepted}
 use Rattle.mt_elements.specs.ChainState.{ChainState}
 use Rattle.mt_elements.specs.Numbered.{IsNumbered}
@@ -15,10 +16,10 @@ use Rattle.mt_trees.specs.Meaning.{meaning_of, rewriters_of, first_under}
 use Rattle.mt_trees.specs.Ranges.{AreInRange}
 use Rattle.mt_trees.specs.Symbols.{Symbol}
 
--- each frame that arrives on a device of an accepted chain has a tree
+-- each header on a device on which frames arrive, whether or not some frame has it, has a tree
 abbrev pub HeadersHaveTrees : Type 0
 HeadersHaveTrees =
-    (chain : ChainState) → IsAccepted chain → IsNumbered chain → (device : ℕ) → 0 < device → device ≤ chain.entries → (frame : List ℕ) → IsThere (tree_of chain (header_of device frame))
+    (chain : ChainState) → IsAccepted chain → IsNumbered chain → (header : List ℕ) → 0 < field_of header Device → field_of header Device ≤ chain.entries → IsThere (tree_of chain header)
 
 -- The tree of a frame's header means the run of the frame, value for value: its fate, the tables and the picks that it
 -- leaves, or the place of the pick that is wrong. Numbers of the tables' flows are in their ranges, as those of every

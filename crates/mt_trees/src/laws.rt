@@ -6,7 +6,7 @@ use mt_kinds::laws::outputs_are_counted;
 use mt_rewriter::laws::{decisions_keep_tables, passages_lead};
 use mt_wiring::laws::ranks;
 
-/// Each frame that arrives on a device of an accepted chain has a tree.
+/// Each header on a device on which frames of an accepted chain arrive has a tree, whether or not some frame has it.
 pub fn headers_have_trees()
     ensures { HeadersHaveTrees }
 {
