@@ -1,0 +1,4 @@
+mod Fields
+mod Found
+mod Halves
+mod Lasts
