@@ -1,0 +1,13 @@
+pub mod Branches
+pub mod Classes
+pub mod Collecting
+pub mod Conditions
+pub mod Cuts
+pub mod Decided
+pub mod Entries
+pub mod Exits
+pub mod Numbering
+pub mod Symbols
+pub mod Table
+pub mod Tests
+pub mod Waiting
