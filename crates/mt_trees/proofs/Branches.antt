@@ -9,7 +9,7 @@ use Rattle.mt_lists.specs.Options.{each}
 use Rattle.mt_packet.specs.Packet.{PacketState}
 use Rattle.mt_terms.specs.Trees.{TreeForm, branches_of}
 use Rattle.mt_trees.proofs.Writes.{unsome}
-use Rattle.mt_trees.specs.Meaning.{RewritersState, Under, meaning_of, meaning_among}
+use Rattle.mt_trees.specs.Meaning.{RewritersState, Under, OfSide, meaning_of, meaning_among, CanServe, CanServeAmong}
 use Rattle.mt_trees.specs.Tests.{Found}
 
 -- ---- outputs
@@ -50,11 +50,12 @@ module _ (rewriters : RewritersState) (picks : List ℕ) (packet : PacketState) 
   abbrev pair_at : ℕ → Option (ℕ × TreeForm)
   pair_at o = option_map (λ tree. (o, tree)) (tree_at o)
 
-  -- the tree of the output is what its branch means
+  -- the tree of the output is what its branch means, and what serving it asks for
   pub record HasBranch (branches : List (ℕ × TreeForm)) : Type 0 where
     pub tree : TreeForm
     pub found : tree_at out ≡ Some tree
     pub means : (under : Under) → meaning_among rewriters picks packet header (branches_of branches) out under ≡ meaning_of rewriters picks packet header tree under
+    pub serves : (under : Under) → CanServe rewriters picks packet header tree under → CanServeAmong rewriters picks packet header (branches_of branches) out under
 
   first_means : (o : ℕ) (tree : TreeForm) (rest : List (ℕ × TreeForm)) (under : Under) (b : Bool) → (o == out) ≡ b
       → meaning_among rewriters picks packet header (branches_of ((o, tree) ∷ rest)) out under
@@ -62,16 +63,25 @@ module _ (rewriters : RewritersState) (picks : List ℕ) (packet : PacketState) 
   unfolding meaning_of
   first_means o tree rest under b e = ap (λ c. if c then meaning_of rewriters picks packet header tree under else meaning_among rewriters picks packet header (branches_of rest) out under) e
 
+  first_serves : (o : ℕ) (tree : TreeForm) (rest : List (ℕ × TreeForm)) (under : Under) (b : Bool) → (o == out) ≡ b
+      → OfSide b (CanServe rewriters picks packet header tree under) (CanServeAmong rewriters picks packet header (branches_of rest) out under)
+      → CanServeAmong rewriters picks packet header (branches_of ((o, tree) ∷ rest)) out under
+  unfolding CanServe
+  first_serves o tree rest under b e served =
+      subst (λ c. OfSide c (CanServe rewriters picks packet header tree under) (CanServeAmong rewriters picks packet header (branches_of rest) out under)) (sym e) served
+
   here_or_later : (o : ℕ) (tree : TreeForm) (rest : List (ℕ × TreeForm)) → tree_at o ≡ Some tree → (b : Bool) → (o == out) ≡ b → (b ≡ false → HasBranch rest) → HasBranch ((o, tree) ∷ rest)
   here_or_later o tree rest is true e later = record {
     tree = tree;
     found = ap tree_at (sym (let same : o ≡ out = grind (arith, nat_tests) in same)) ∙ is;
     means = λ under. first_means o tree rest under true e;
+    serves = λ under served. first_serves o tree rest under true e served;
   }
   here_or_later o tree rest is false e later = let h = later refl in record {
     tree = h.tree;
     found = h.found;
     means = λ under. first_means o tree rest under false e ∙ h.means under;
+    serves = λ under served. first_serves o tree rest under false e (h.serves under served);
   }
 
   among_rest : (o : ℕ) (os : List ℕ) → (o == out) ≡ false → is_among out (o ∷ os) ≡ true → is_among out os ≡ true

@@ -32,7 +32,7 @@ use Rattle.mt_chain.specs.Run.{Run, Answer}
 use Rattle.mt_terms.specs.Terms.{value_of}
 use Rattle.mt_trees.proofs.Patterns.{pattern_agrees}
 use Rattle.mt_trees.proofs.Routes.{first_is_route}
-use Rattle.mt_trees.proofs.Tested.{Agrees, tested_agrees}
+use Rattle.mt_trees.proofs.Tested.{Agrees, IsKnown, tested_agrees}
 use Rattle.mt_trees.specs.Elements.{Along, dropped, by_length, leaves, classifier_tree, ip_classifier_tree, action_tree, filter_tree, with_gateway, route_tree}
 use Rattle.mt_trees.specs.Meaning.{RewritersState, Under}
 use Rattle.mt_trees.specs.Symbols.{Symbol, term_at}
@@ -76,6 +76,7 @@ one_on test n (x ∷ xs) = either (test x) (one_on test (n + 1) xs)
 
 module _ (rewriters : RewritersState) (picks : List ℕ) (packet : PacketState) (header : List ℕ) (under : Under) (symbol : Symbol) (here : PacketState)
     (values : (field : Field) → value_of (term_at symbol field) header under.passed ≡ field_of (packet_header here) field)
+    (known : (field : Field) → IsKnown rewriters picks packet header under (term_at symbol field))
     (are_bytes : AreBytes here.bytes) where
   abbrev Means : Found → Answer Run → Type 0
   Means found answer = Agrees rewriters picks packet header under found answer
@@ -85,7 +86,7 @@ module _ (rewriters : RewritersState) (picks : List ℕ) (packet : PacketState) 
   span_agrees : (field : Field) (span : Span) (inside outside : Found) (answer : Answer Run) → (contains_number span (field_of (packet_header here) field) ≡ true → Means inside answer)
       → (contains_number span (field_of (packet_header here) field) ≡ false → Means outside answer) → Means (tested header (term_at symbol field) span inside outside) answer
   span_agrees field span inside outside answer h k =
-      tested_agrees rewriters picks packet header under (term_at symbol field) span inside outside answer (λ e. h (same ∙ e)) (λ e. k (same ∙ e))
+      tested_agrees rewriters picks packet header under (term_at symbol field) span (known field) inside outside answer (λ e. h (same ∙ e)) (λ e. k (same ∙ e))
     where
       same : contains_number span (field_of (packet_header here) field) ≡ contains_number span (value_of (term_at symbol field) header under.passed)
       same = ap (contains_number span) (sym (values field))
@@ -141,7 +142,7 @@ module _ (rewriters : RewritersState) (picks : List ℕ) (packet : PacketState) 
   pub meaning_agrees : (pattern : Pattern) (inside outside : Found) (answer : Answer Run) → (holds_on (packet_header here) pattern ≡ true → Means inside answer) → (holds_on (packet_header here) pattern ≡ false → Means outside answer)
       → Means (pattern_tried header symbol pattern inside outside) answer
   meaning_agrees pattern inside outside answer h k =
-      pattern_agrees rewriters picks packet header under symbol pattern inside outside answer (λ e. h (same ∙ e)) (λ e. k (same ∙ e))
+      pattern_agrees rewriters picks packet header under symbol known pattern inside outside answer (λ e. h (same ∙ e)) (λ e. k (same ∙ e))
     where
       same : holds_on (packet_header here) pattern ≡ pattern_meaning pattern (λ field. value_of (term_at symbol field) header under.passed)
       same = ap (pattern_meaning pattern) (sym (λ i field. values field i))

@@ -6,7 +6,7 @@ use Rattle.std.proofs.lemmas.Bool.Decides.{nat_tests}
 use Rattle.mt_packet.proofs.Forms.{source, destination, code_point, life, source_port, destination_port}
 use Rattle.mt_packet.proofs.Frames.{valid-holds, valid-tested}
 use Rattle.mt_packet.specs.Header.{AreBytes, field_of}
-use Rattle.mt_packet.specs.Ipv4.{is_valid_ipv4, ip_ok_of, has_ports}
+use Rattle.mt_packet.specs.Ipv4.{IsValidIpv4, is_valid_ipv4, ip_ok_of, has_ports}
 use Rattle.mt_packet.specs.Packet.{PacketState, has_ethernet, datagram_of, packet_header, with_field, stripped as strip, encapsulated as encap, checked as check}
 use Rattle.mt_packet.specs.declared.cause.Cause.{Cause}
 use Rattle.mt_packet.specs.declared.cause.Cause.TheVariants as cause
@@ -34,16 +34,16 @@ use Rattle.mt_chain.specs.declared.run.Fate.TheVariants as fate
 use Rattle.mt_terms.specs.Terms.{TermForm, const, entry, minus, flow_part, less_by, value_of, passages_of}
 use Rattle.mt_terms.specs.Trees.{leaf}
 use Rattle.mt_trees.proofs.Chosen.{field_agrees, whole_agrees, ports_agrees, classifier_agrees, ip_classifier_agrees, filter_agrees, route_agrees}
-use Rattle.mt_trees.proofs.Leaves.{leaf_is}
-use Rattle.mt_trees.proofs.Leaving.{Shade, is_lowered, IsGood, under_of, Agree, drop_answer, drop_agrees, leave_answer, leaves_agree}
+use Rattle.mt_trees.proofs.Leaves.{leaf_is, leaf_can}
+use Rattle.mt_trees.proofs.Leaving.{Shade, is_lowered, IsGood, under_of, Agree, are_known, drop_answer, drop_agrees, leave_answer, leaves_agree}
 use Rattle.mt_trees.proofs.Moves.{paint, annotation}
 use Rattle.mt_trees.proofs.Shadow.{IsShadow, term_beside}
 use Rattle.mt_trees.proofs.Stations.{from}
 use Rattle.mt_trees.proofs.Steps.{in_range, low_sport, low_dport, flow_there, flow_gone, ip_is, mark_shade, part_shade, sums_here, can_source, can_destination, can_dscp, can_ttl, can_sport, can_dport, station_shade, refused_shade, stripped_shade, encapsulated_shade, checked_shade, rechecked_shade, once_shade, once_long}
-use Rattle.mt_trees.proofs.Tested.{header_value}
-use Rattle.mt_trees.proofs.Writes.{one_field, two_fields, unsome}
+use Rattle.mt_trees.proofs.Tested.{header_value, one_agrees}
+use Rattle.mt_trees.proofs.Writes.{one_field, two_fields}
 use Rattle.mt_trees.specs.Elements.{Along, class_tree, check_tree, leaves, with_gateway, action_tree, dropped, rewrite_of}
-use Rattle.mt_trees.specs.Meaning.{meaning_of, rewriters_of, rewritten}
+use Rattle.mt_trees.specs.Meaning.{CanRewrite, meaning_of, CanServe, rewriters_of, rewritten}
 use Rattle.mt_trees.specs.Symbols.{Symbol, term_at, with_term, annotated, stripped, encapsulated, ethernet_swapped, checked, refused, addresses_swapped, ports_swapped}
 use Rattle.mt_trees.specs.Tests.{Found}
 
@@ -92,6 +92,9 @@ module _ (chain : ChainState) (header : List ℕ) (first : PacketState) (header_
   shadow : IsShadow header first symbol passed p
   shadow = shade.shadow
 
+  known : (field : Field) → passages_of (term_at symbol field) ≤ length passed
+  known = are_known header first symbol passed p shade
+
   abbrev Means : Found → Answer Run → Type 0
   Means found answer = Agree chain header first picks passed state found answer
 
@@ -125,7 +128,7 @@ module _ (chain : ChainState) (header : List ℕ) (first : PacketState) (header_
   mirror_agrees : has_ethernet symbol.layer ≡ true → Means (class_tree chain header along at kind.EtherMirror symbol) (stepped kind.EtherMirror)
   unfolding class_tree class_step
   mirror_agrees there =
-      whole_agrees (rewriters_of chain) picks first header (under_of passed state) symbol p shadow.values shadow.are_bytes _ _ _
+      whole_agrees (rewriters_of chain) picks first header (under_of passed state) symbol p shadow.values known shadow.are_bytes _ _ _
       (λ e. subst (λ b. Means (leaves chain header along at kind.EtherMirror (ethernet_swapped symbol) 0) (option_and_then (goes_on chain picks at.0 kind.EtherMirror along_run) (option_map (with_packet state) (if b then run_leaves (swap_ethernet p) 0 else run_drops p cause.Short)))) (sym e)
       (goes kind.EtherMirror (ethernet_swapped symbol) (swap_ethernet p) 0 (mirror_shade there (has_length (ap has_ethernet shadow.layer ∙ there) e))))
       (λ e. subst (λ b. Means (dropped cause.Short) (option_and_then (goes_on chain picks at.0 kind.EtherMirror along_run) (option_map (with_packet state) (if b then run_leaves (swap_ethernet p) 0 else run_drops p cause.Short)))) (sym e)
@@ -134,7 +137,7 @@ module _ (chain : ChainState) (header : List ℕ) (first : PacketState) (header_
   strip_agrees : has_ethernet symbol.layer ≡ true → Means (class_tree chain header along at kind.Strip symbol) (stepped kind.Strip)
   unfolding class_tree class_step
   strip_agrees there =
-      whole_agrees (rewriters_of chain) picks first header (under_of passed state) symbol p shadow.values shadow.are_bytes _ _ _
+      whole_agrees (rewriters_of chain) picks first header (under_of passed state) symbol p shadow.values known shadow.are_bytes _ _ _
       (λ e. subst (λ b. Means (leaves chain header along at kind.Strip (stripped symbol) 0) (option_and_then (goes_on chain picks at.0 kind.Strip along_run) (option_map (with_packet state) (if b then run_leaves (strip p) 0 else run_drops p cause.Short)))) (sym (length_test (ap has_ethernet shadow.layer ∙ there) ∙ e))
       (goes kind.Strip (stripped symbol) (strip p) 0 (stripped_shade chain header first header_is arrives bytes picks symbol passed p shade there)))
       (λ e. subst (λ b. Means (dropped cause.Short) (option_and_then (goes_on chain picks at.0 kind.Strip along_run) (option_map (with_packet state) (if b then run_leaves (strip p) 0 else run_drops p cause.Short)))) (sym (length_test (ap has_ethernet shadow.layer ∙ there) ∙ e))
@@ -155,7 +158,7 @@ module _ (chain : ChainState) (header : List ℕ) (first : PacketState) (header_
       (sym (valid-tested (datagram_of p) (sums_here chain header first header_is arrives bytes picks symbol passed p shade is).is_checked))
       (goes kind.CheckIPHeader (checked symbol) (check p) 0 (rechecked_shade chain header first header_is arrives bytes picks symbol passed p shade is))
   check_agrees Bare is bare =
-      field_agrees (rewriters_of chain) picks first header (under_of passed state) symbol p shadow.values shadow.are_bytes of.IpOk 1 1 _ _ _
+      field_agrees (rewriters_of chain) picks first header (under_of passed state) symbol p shadow.values known shadow.are_bytes of.IpOk 1 1 _ _ _
       (λ e. (let valid : is_valid_ipv4 (datagram_of p) ≡ true = sym (one_only (is_valid_ipv4 (datagram_of p))) ∙ ap (contains_number (record { lo = 1; hi = 1 })) (sym ip_ok) ∙ e in
       subst (λ b. Means (leaves chain header along at kind.CheckIPHeader (checked symbol) 0) (option_and_then (goes_on chain picks at.0 kind.CheckIPHeader along_run) (option_map (with_packet state) (if b then run_leaves (check p) 0 else run_leaves (refuse p) 1)))) (sym valid)
       (goes kind.CheckIPHeader (checked symbol) (check p) 0 (checked_shade chain header first header_is arrives bytes picks symbol passed p shade is (valid-holds (datagram_of p) valid)))))
@@ -177,7 +180,7 @@ module _ (chain : ChainState) (header : List ℕ) (first : PacketState) (header_
     ttl_agrees : Means (class_tree chain header along at kind.DecIPTTL symbol) (stepped kind.DecIPTTL)
     unfolding class_tree class_step
     ttl_agrees =
-        field_agrees (rewriters_of chain) picks first header (under_of passed state) symbol p shadow.values shadow.are_bytes of.Ttl 0 1 _ _ _
+        field_agrees (rewriters_of chain) picks first header (under_of passed state) symbol p shadow.values known shadow.are_bytes of.Ttl 0 1 _ _ _
         (λ e. subst (λ b. Means (leaves chain header along at kind.DecIPTTL symbol 1) (option_and_then (goes_on chain picks at.0 kind.DecIPTTL along_run) (option_map (with_packet state) (if b then run_leaves p 1 else run_leaves (one_hop_on p) 0)))) (sym (sym (run_out_is (read p of.Ttl)) ∙ e))
         (goes kind.DecIPTTL symbol p 1 shade))
         (λ e. subst (λ b. Means (leaves chain header along at kind.DecIPTTL (with_term symbol of.Ttl (less_by (term_at symbol of.Ttl) 1)) 0) (option_and_then (goes_on chain picks at.0 kind.DecIPTTL along_run) (option_map (with_packet state) (if b then run_leaves p 1 else run_leaves (one_hop_on p) 0)))) (sym (sym (run_out_is (read p of.Ttl)) ∙ e))
@@ -226,7 +229,7 @@ module _ (chain : ChainState) (header : List ℕ) (first : PacketState) (header_
     swap_agrees : Means (class_tree chain header along at kind.IPMirror symbol) (stepped kind.IPMirror)
     unfolding class_tree class_step
     swap_agrees =
-        ports_agrees (rewriters_of chain) picks first header (under_of passed state) symbol p shadow.values shadow.are_bytes _ _ _
+        ports_agrees (rewriters_of chain) picks first header (under_of passed state) symbol p shadow.values known shadow.are_bytes _ _ _
         (λ e. subst (λ o. Means (leaves chain header along at kind.IPMirror (ports_swapped (addresses_swapped symbol)) 0) (option_and_then (goes_on chain picks at.0 kind.IPMirror along_run) (option_map (with_packet state) (run_leaves (swap_ports (swap_addresses p) o) 0)))) (sym (flow_there p e))
         (goes kind.IPMirror (ports_swapped (addresses_swapped symbol)) (with_field (with_field (swap_addresses p) of.Sport (read p of.Dport)) of.Dport (read p of.Sport)) 0 (ports_shade e)))
         (λ e. subst (λ o. Means (leaves chain header along at kind.IPMirror (addresses_swapped symbol) 0) (option_and_then (goes_on chain picks at.0 kind.IPMirror along_run) (option_map (with_packet state) (run_leaves (swap_ports (swap_addresses p) o) 0)))) (sym (flow_gone p e))
@@ -267,15 +270,23 @@ module _ (chain : ChainState) (header : List ℕ) (first : PacketState) (header_
   unfolding meaning_of
   leaf_means device = refl
 
+  leaf_serves : (device : ℕ) → CanRewrite header passed (rewrite_of symbol) first → CanServe (rewriters_of chain) picks first header (leaf (rewrite_of symbol) device) (under_of passed state)
+  unfolding CanServe
+  leaf_serves device can = (refl, refl, can)
+
   sent_agrees : has_ethernet symbol.layer ≡ true → (device : ℕ) → Means (class_tree chain header along at (kind.ToDevice device) symbol) (stepped (kind.ToDevice device))
   unfolding class_tree class_step
-  sent_agrees there device tree is = (
-    ap (λ t. meaning_of (rewriters_of chain) picks first header t (under_of passed state)) (sym (unsome (leaf (rewrite_of symbol) device) tree is))
-        ∙ leaf_means device
-        ∙ ap (λ s. Some (Ok (record { fate = fate.Sent device s; tables = state.tables; picks = drop state.used picks })))
-        (leaf_is header first symbol passed p arrives shadow there (λ e. shade.valid (sym shadow.trim ∙ e))),
-    good.range,
-  )
+  sent_agrees there device =
+      one_agrees (rewriters_of chain) picks first header (under_of passed state) (leaf (rewrite_of symbol) device) (stepped (kind.ToDevice device)) (
+        leaf_means device
+            ∙ ap (λ s. Some (Ok (record { fate = fate.Sent device s; tables = state.tables; picks = drop state.used picks })))
+            (leaf_is header first symbol passed p arrives shadow there checked_first),
+        good.range,
+        leaf_serves device (leaf_can header first symbol passed p arrives shadow there checked_first),
+      )
+    where
+      checked_first : symbol.trim ≡ true → IsValidIpv4 (datagram_of first)
+      checked_first e = shade.valid (sym shadow.trim ∙ e)
 
   -- ---- all classes
 
@@ -296,7 +307,7 @@ module _ (chain : ChainState) (header : List ℕ) (first : PacketState) (header_
       (mark_shade chain header first header_is arrives bytes picks symbol passed p shade paint (const v) v refl (omega arith) (λ _. refl))
   class_agrees kind.PaintSwitch plain h fits low = switch_agrees
   class_agrees (kind.Classifier patterns) plain h fits low =
-      classifier_agrees (rewriters_of chain) picks first header (under_of passed state) symbol p shadow.values shadow.are_bytes chain along at (kind.Classifier patterns)
+      classifier_agrees (rewriters_of chain) picks first header (under_of passed state) symbol p shadow.values known shadow.are_bytes chain along at (kind.Classifier patterns)
       (λ o. option_and_then (goes_on chain picks at.0 (kind.Classifier patterns) along_run) (option_map (with_packet state) (by_pattern p o)))
       (λ i. goes (kind.Classifier patterns) symbol p i shade) (drops cause.Classified) patterns
   class_agrees kind.EtherMirror plain h fits low = mirror_agrees h
@@ -312,15 +323,15 @@ module _ (chain : ChainState) (header : List ℕ) (first : PacketState) (header_
       (mark_shade chain header first header_is arrives bytes picks symbol passed p shade annotation (term_at symbol of.Dst) (read p of.Dst) (shadow.values of.Dst) (shadow.bounded of.Dst) (λ e. absurd (two_fields of.Annotation of.Paint refl e)))
   class_agrees kind.IPMirror plain h fits low = swap_agrees (now_ip h)
   class_agrees (kind.IPFilter rules) plain h fits low =
-      filter_agrees (rewriters_of chain) picks first header (under_of passed state) symbol p shadow.values shadow.are_bytes chain along at (kind.IPFilter rules)
+      filter_agrees (rewriters_of chain) picks first header (under_of passed state) symbol p shadow.values known shadow.are_bytes chain along at (kind.IPFilter rules)
       (λ action. option_and_then (goes_on chain picks at.0 (kind.IPFilter rules) along_run) (option_map (with_packet state) (by_action p action)))
       (action_agrees (kind.IPFilter rules)) rules
   class_agrees (kind.IPClassifier patterns) plain h fits low =
-      ip_classifier_agrees (rewriters_of chain) picks first header (under_of passed state) symbol p shadow.values shadow.are_bytes chain along at (kind.IPClassifier patterns)
+      ip_classifier_agrees (rewriters_of chain) picks first header (under_of passed state) symbol p shadow.values known shadow.are_bytes chain along at (kind.IPClassifier patterns)
       (λ o. option_and_then (goes_on chain picks at.0 (kind.IPClassifier patterns) along_run) (option_map (with_packet state) (by_ip_pattern p o)))
       (λ i. goes (kind.IPClassifier patterns) symbol p i shade) (drops cause.Filtered) patterns
   class_agrees (kind.Route hops) plain h fits low =
-      route_agrees (rewriters_of chain) picks first header (under_of passed state) symbol p shadow.values shadow.are_bytes chain along at (kind.Route hops)
+      route_agrees (rewriters_of chain) picks first header (under_of passed state) symbol p shadow.values known shadow.are_bytes chain along at (kind.Route hops)
       (λ o. option_and_then (goes_on chain picks at.0 (kind.Route hops) along_run) (option_map (with_packet state) (by_hop p o)))
       (λ hop. hop_agrees (kind.Route hops) hop.gateway hop.out) (drops cause.NoRoute) hops
   class_agrees (kind.IPRewriter specs) plain h fits low = absurd (false≢true (sym plain))

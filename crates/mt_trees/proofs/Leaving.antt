@@ -1,5 +1,5 @@
 -- A packet and its symbol at an element: what goes on behind it, and what is known of them.
-use Rattle.std.proofs.Common.{◌≡◌, ◌≢◌, ◌∙◌, sym, ap, refl, ℕ, Bool, true, false, List}
+use Rattle.std.proofs.Common.{◌≡◌, ◌≢◌, ◌∙◌, ap, refl, ℕ, ◌≤◌, Bool, true, false, List, length, arith}
 use Rattle.std.specs.Prelude.{drop, Option, Some, None, Ok, option_and_then}
 use Rattle.mt_packet.specs.Ipv4.{IsValidIpv4}
 use Rattle.mt_packet.specs.Packet.{PacketState, datagram_of}
@@ -17,10 +17,10 @@ use Rattle.mt_chain.specs.declared.run.Fate.TheVariants as fate
 use Rattle.mt_terms.specs.Terms.{TermForm, entry, minus, passages_of}
 use Rattle.mt_terms.specs.Trees.{drop as drop_tree}
 use Rattle.mt_trees.proofs.Shadow.{is_checked_layer, IsShadow, term_beside}
-use Rattle.mt_trees.proofs.Tested.{Agrees, none_agrees}
-use Rattle.mt_trees.proofs.Writes.{unsome, is_same}
+use Rattle.mt_trees.proofs.Tested.{IsMeant, Agrees, none_agrees, one_agrees}
+use Rattle.mt_trees.proofs.Writes.{is_same}
 use Rattle.mt_trees.specs.Elements.{Along, by_wire, dropped, leaves}
-use Rattle.mt_trees.specs.Meaning.{Under, meaning_of, rewriters_of}
+use Rattle.mt_trees.specs.Meaning.{Under, meaning_of, CanServe, rewriters_of}
 use Rattle.mt_trees.specs.Ranges.{AreInRange}
 use Rattle.mt_trees.specs.Symbols.{Symbol, term_at, with_term}
 use Rattle.mt_trees.specs.Tests.{Found}
@@ -41,6 +41,10 @@ module _ (header : List ℕ) (first : PacketState) where
     pub painted : passages_of (term_at symbol of.Paint) ≡ 0
     -- the time to live is that of the frame, or less by a number
     pub lowered : is_lowered (term_at symbol of.Ttl) ≡ true
+
+  -- the flows of its terms are known
+  pub are_known : (symbol : Symbol) (passed : List Flow) (p : PacketState) → Shade symbol passed p → (field : Field) → passages_of (term_at symbol field) ≤ length passed
+  are_known symbol passed p shade field = let b = shade.shadow.bounded field in let c = shade.shadow.counted in omega (arith, b, c)
 
 pub unpainted : (symbol : Symbol) (field : Field) (term : TermForm) → of.Paint ≢ field → passages_of (term_at symbol of.Paint) ≡ 0 → passages_of (term_at (with_term symbol field term) of.Paint) ≡ 0
 unpainted symbol field term apart h = ap passages_of (term_beside symbol field of.Paint term apart) ∙ h
@@ -66,15 +70,12 @@ module _ (chain : ChainState) (header : List ℕ) (first : PacketState) (picks :
   abbrev pub drop_answer : State → Cause → Answer Run
   drop_answer state why = Some (Ok (record { fate = fate.Dropped why; tables = state.tables; picks = drop state.used picks }))
 
-  drop_means : (passed : List Flow) (state : State) (why : Cause) → meaning_of (rewriters_of chain) picks first header (drop_tree why) (under_of passed state) ≡ drop_answer state why
-  unfolding meaning_of
-  drop_means passed state why = refl
+  drop_means : (passed : List Flow) (state : State) (why : Cause) → AreInRange state.tables → IsMeant (rewriters_of chain) picks first header (under_of passed state) (drop_tree why) (drop_answer state why)
+  unfolding meaning_of CanServe
+  drop_means passed state why range = (refl, range, tt)
 
   pub drop_agrees : (passed : List Flow) (state : State) (why : Cause) → AreInRange state.tables → Agree passed state (dropped why) (drop_answer state why)
-  drop_agrees passed state why range tree is = (
-    ap (λ t. meaning_of (rewriters_of chain) picks first header t (under_of passed state)) (sym (unsome (drop_tree why) tree is)) ∙ drop_means passed state why,
-    range,
-  )
+  drop_agrees passed state why range = one_agrees (rewriters_of chain) picks first header (under_of passed state) (drop_tree why) (drop_answer state why) (drop_means passed state why range)
 
   module _ (at : ℕ × ℕ) (along : Along) (along_run : ℕ × ℕ → State → Answer Run)
       (again : (next : ℕ × ℕ) (symbol : Symbol) (passed : List Flow) (state : State) → Shade header first symbol passed state.packet → IsGood chain state.tables → Agree passed state (along next symbol) (along_run next state)) where

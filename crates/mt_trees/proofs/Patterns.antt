@@ -10,7 +10,7 @@ use Rattle.mt_pattern.specs.declared.pattern.Pattern.{Pattern, map-Pattern, roll
 use Rattle.mt_pattern.specs.declared.pattern.Pattern.TheVariants.{True, Within, Not, And, Or}
 use Rattle.mt_pattern.specs.declared.pattern.Pattern.TheOpen.{Pattern-F}
 use Rattle.mt_chain.specs.Run.{Run, Answer}
-use Rattle.mt_trees.proofs.Tested.{Agrees, value, tested_agrees}
+use Rattle.mt_trees.proofs.Tested.{Agrees, value, IsKnown, tested_agrees}
 use Rattle.mt_trees.specs.Meaning.{RewritersState, Under}
 use Rattle.mt_trees.specs.Symbols.{Symbol, term_at}
 use Rattle.mt_trees.specs.Tests.{Found, Tried, tested, layer_tried, pattern_tried}
@@ -40,7 +40,8 @@ module _ (header : List ℕ) (symbol : Symbol) where
 
 -- ---- what it means
 
-module _ (rewriters : RewritersState) (picks : List ℕ) (packet : PacketState) (header : List ℕ) (under : Under) (symbol : Symbol) where
+module _ (rewriters : RewritersState) (picks : List ℕ) (packet : PacketState) (header : List ℕ) (under : Under) (symbol : Symbol)
+    (known : (field : Field) → IsKnown rewriters picks packet header under (term_at symbol field)) where
   abbrev Means : Found → Answer Run → Type 0
   Means found answer = Agrees rewriters picks packet header under found answer
 
@@ -62,7 +63,7 @@ module _ (rewriters : RewritersState) (picks : List ℕ) (packet : PacketState) 
   is_within : (field : Field) (span : Span) → IsTried (Within field span)
   is_within field span inside outside answer h k =
       by_form (Within field span) _ (tried-within header symbol field span) inside outside answer
-      (tested_agrees rewriters picks packet header under (term_at symbol field) span inside outside answer (λ e. h (meaning-within field span here ∙ e)) (λ e. k (meaning-within field span here ∙ e)))
+      (tested_agrees rewriters picks packet header under (term_at symbol field) span (known field) inside outside answer (λ e. h (meaning-within field span here ∙ e)) (λ e. k (meaning-within field span here ∙ e)))
 
   is_not : (p : Pattern) → IsTried p → IsTried (Not p)
   is_not p t inside outside answer h k =

@@ -1,5 +1,5 @@
 -- The tree of a rewriter means its step, where what follows means what follows.
-use Rattle.std.proofs.Common.{◌≡◌, ◌≢◌, ◌∙◌, sym, ap, subst, refl, ℕ, Bool, true, List, [], ◌∷◌, ◌++◌, map, arith}
+use Rattle.std.proofs.Common.{◌≡◌, ◌≢◌, ◌∙◌, sym, ap, subst, refl, ℕ, ◌≤◌, Bool, true, List, [], ◌∷◌, ◌++◌, map, length, arith}
 use Rattle.std.specs.Prelude.{Option, Some, None, Result, Ok, Err, if◌then◌else◌, slice_get, option_map, option_and_then}
 use Rattle.std.proofs.lemmas.Option.{slice_get-map}
 use Rattle.mt_lists.specs.Options.{each}
@@ -37,15 +37,15 @@ use Rattle.mt_trees.proofs.Branches.{kept_within, branch_of}
 use Rattle.mt_trees.proofs.Chosen.{ports_agrees}
 use Rattle.mt_trees.proofs.Flows.{parts_kept, fits_after, stays_in_range}
 use Rattle.mt_trees.proofs.Grounds.{ground_sums, ground_whole, ground_data}
-use Rattle.mt_trees.proofs.Leaving.{Shade, is_lowered, IsGood, under_of, Agree, drop_agrees, leave_answer, leaves_agree}
+use Rattle.mt_trees.proofs.Leaving.{Shade, is_lowered, IsGood, under_of, Agree, are_known, drop_agrees, leave_answer, leaves_agree}
 use Rattle.mt_trees.proofs.Moves.{annotation}
 use Rattle.mt_trees.proofs.Passing.{behind_beside, behind_shadow}
 use Rattle.mt_trees.proofs.Shadow.{is_checked_layer, IsShadow, own_value, term_beside}
 use Rattle.mt_trees.proofs.Steps.{in_range, low_sport, low_dport, flow_there, flow_gone, mark_shade, sums_here, ports_here}
-use Rattle.mt_trees.proofs.Tested.{Fine, none_agrees}
-use Rattle.mt_trees.proofs.Writes.{unsome, two_fields}
+use Rattle.mt_trees.proofs.Tested.{Fine, IsMeant, none_agrees, one_agrees}
+use Rattle.mt_trees.proofs.Writes.{two_fields}
 use Rattle.mt_trees.specs.Elements.{Along, leaves, passed_tree, passage_tree, rewriter_tree}
-use Rattle.mt_trees.specs.Meaning.{Under, meaning_of, meaning_among, rewriters_of, flow_at, by_passage as meant_by_passage, by_decision, at_input}
+use Rattle.mt_trees.specs.Meaning.{Under, meaning_of, meaning_among, rewriters_of, flow_at, by_passage as meant_by_passage, by_decision, at_input, CanArrive, ServesPassage, ServesDecision, ServesInput, ServesElement, CanServe, CanServeAmong}
 use Rattle.mt_trees.specs.Passages.{keeps_part, field_of_part, part_behind, one_more, behind, code_of, outputs_taken}
 use Rattle.mt_trees.specs.Ranges.{FlowFits}
 use Rattle.mt_trees.specs.Symbols.{Symbol, term_at, annotated}
@@ -82,6 +82,9 @@ module _ (chain : ChainState) (header : List ℕ) (first : PacketState) (header_
   abbrev Means : Found → Answer Run → Type 0
   Means found answer = Agree chain header first picks passed state found answer
 
+  known : (field : Field) → passages_of (term_at symbol field) ≤ length passed
+  known = are_known header first symbol passed p shade
+
   valid : IsValidIpv4 (datagram_of first)
   valid = shade.valid (ap is_checked_layer ip)
 
@@ -105,9 +108,12 @@ module _ (chain : ChainState) (header : List ℕ) (first : PacketState) (header_
   abbrev flow : Flow
   flow = record { proto = read p of.Proto; sa = read p of.Src; sp = read p of.Sport; da = read p of.Dst; dp = read p of.Dport }
 
+  same_protocol : field_of header of.Proto ≡ read p of.Proto
+  same_protocol = sym (own_value header passed of.Proto (term_at symbol of.Proto) shadow.protocol) ∙ shadow.values of.Proto
+
   same_flow : flow_at (rewriters_of chain) picks first header (code_of at symbol) (under_of passed state) ≡ flow
   same_flow =
-      let proto : field_of header of.Proto ≡ read p of.Proto = sym (own_value header passed of.Proto (term_at symbol of.Proto) shadow.protocol) ∙ shadow.values of.Proto in
+      let proto = same_protocol in
       let sa = shadow.values of.Src in
       let sp = shadow.values of.Sport in
       let da = shadow.values of.Dst in
@@ -124,6 +130,16 @@ module _ (chain : ChainState) (header : List ℕ) (first : PacketState) (header_
       sp = low_sport (datagram_of p) (datagram-bytes p shadow.are_bytes) visible;
       da = in_range p shadow.are_bytes of.Dst;
       dp = low_dport (datagram_of p) (datagram-bytes p shadow.are_bytes) visible;
+    }
+
+    can_arrive : CanArrive (rewriters_of chain) picks first header (code_of at symbol) (under_of passed state)
+    can_arrive = record {
+      sa = known of.Src;
+      sp = known of.Sport;
+      da = known of.Dst;
+      dp = known of.Dport;
+      protocol = subst (λ n. n ≤ 255) (sym same_protocol) (in_range p shadow.are_bytes of.Proto);
+      fits = subst FlowFits (sym same_flow) flow_fits;
     }
 
     flow_value : (part : Part) → part_of part flow ≡ value_of (term_at symbol (field_of_part part)) header passed
@@ -178,36 +194,41 @@ module _ (chain : ChainState) (header : List ℕ) (first : PacketState) (header_
       abbrev among : ℕ → Under → Answer Run
       among = meaning_among (rewriters_of chain) picks first header (branches_of branches)
 
+      abbrev Serves : ℕ → Under → Type 0
+      Serves = CanServeAmong (rewriters_of chain) picks first header (branches_of branches)
+
       out_agrees : (out : ℕ) (next : Flow) (q : PacketState) → leads (mappers_of chain.kinds) own at.1 out ≡ true → Shade header first (behind keeps symbol) (passed ++ next ∷ []) q
           → (among out (under_of (passed ++ next ∷ []) (after q)) ≡ leave_answer chain header first picks at along along_run again own (after q) out)
-          × Fine (leave_answer chain header first picks at along along_run again own (after q) out)
+          × Fine (leave_answer chain header first picks at along along_run again own (after q) out) × Serves out (under_of (passed ++ next ∷ []) (after q))
       out_agrees out next q lead shade' =
           let below = within_law (mappers_of chain.kinds) specs at.1 out 0 lead in
           let there = kept_within (leads (mappers_of chain.kinds) own at.1) out 0 (rewriter_outs (mappers_of chain.kinds) specs) lead (omega arith) (omega (arith, below)) in
           let found = branch_of (rewriters_of chain) picks first header tree_at out (outputs_taken (mappers_of chain.kinds) specs at.1) branches read_all there in
           let goes = leaves_agree chain header first picks at along along_run again own (behind keeps symbol) (passed ++ next ∷ []) (after q) out shade' good_after found.tree found.found in
-          (found.means (under_of (passed ++ next ∷ []) (after q)) ∙ goes.0, goes.1)
+          (found.means (under_of (passed ++ next ∷ []) (after q)) ∙ goes.0, goes.1, found.serves (under_of (passed ++ next ∷ []) (after q)) goes.2)
 
       by_passage : (made : Passage) → decision.passage ≡ made → PassageLeads (leads (mappers_of chain.kinds) own at.1) made
           → (meant_by_passage (rewriters_of chain) picks first header among (under_of passed state) flow decision made
           ≡ option_and_then (goes_on chain picks at.0 own along_run) (Some (Ok (with_passage state decision (passed_on made p)))))
           × Fine (option_and_then (goes_on chain picks at.0 own along_run) (Some (Ok (with_passage state decision (passed_on made p)))))
+          × ServesPassage (rewriters_of chain) picks first header Serves (under_of passed state) flow decision made
       by_passage (passage.Rewritten meeting) is lead =
           out_agrees meeting.output meeting.after (annotate (with_flow p meeting.after)) lead
           (behind_shade meeting.after (fits_after chain at.0 at.1 specs s stands spec_is state.tables picks state.used flow decision good.kept told ranges good.range flow_fits meeting is)
           (parts_kept chain at.0 at.1 specs s stands spec_is state.tables picks state.used flow decision good.kept told meeting is))
       by_passage (passage.Passed out) is lead =
           out_agrees out flow (annotate p) lead (subst (λ q. Shade header first (behind keeps symbol) (passed ++ flow ∷ []) (annotate q)) same_packet (behind_shade flow flow_fits (λ part e. refl)))
-      by_passage (passage.Dropped why) is lead = (refl, good_after.range)
+      by_passage (passage.Dropped why) is lead = (refl, good_after.range, tt)
 
     -- ---- the passage
 
     passage_means : (branches : List (ℕ × TreeForm)) → each (λ out. option_map (λ tree. (out, tree)) (tree_at out)) (outputs_taken (mappers_of chain.kinds) specs at.1) ≡ Some branches → (result : Result Decision ℕ)
         → decide_for (mappers_of chain.kinds) chain.pools picks state.tables at.0 at.1 state.used s (Some flow) ≡ result
         → (by_decision (rewriters_of chain) picks first header (meaning_among (rewriters_of chain) picks first header (branches_of branches)) (under_of passed state) flow result ≡ decided result) × Fine (decided result)
+        × ServesDecision (rewriters_of chain) picks first header (CanServeAmong (rewriters_of chain) picks first header (branches_of branches)) (under_of passed state) flow result
     passage_means branches read_all (Ok decision) told =
         by_passage branches read_all decision told decision.passage refl (lead_law chain at.0 at.1 specs s stands spec_is state.tables picks state.used (Some flow) decision good.kept told)
-    passage_means branches read_all (Err place) told = (refl, tt)
+    passage_means branches read_all (Err place) told = (refl, tt, tt)
 
     abbrev meant_at : (List (ℕ × TreeForm)) → Option Spec → Answer Run
     meant_at branches found = at_input (rewriters_of chain) picks first header (meaning_among (rewriters_of chain) picks first header (branches_of branches)) (code_of at symbol) (under_of passed state) found
@@ -215,11 +236,13 @@ module _ (chain : ChainState) (header : List ℕ) (first : PacketState) (header_
     specs_stand : slice_get (map specs_in chain.kinds) at.0 ≡ Some specs
     specs_stand = slice_get-map specs_in chain.kinds at.0 ∙ ap (option_map specs_in) stands
 
+    abbrev Served : List (ℕ × TreeForm) → ℕ → Under → Type 0
+    Served branches = CanServeAmong (rewriters_of chain) picks first header (branches_of branches)
+
     op_means : (branches : List (ℕ × TreeForm)) → each (λ out. option_map (λ tree. (out, tree)) (tree_at out)) (outputs_taken (mappers_of chain.kinds) specs at.1) ≡ Some branches
-        → (meaning_of (rewriters_of chain) picks first header (op (code_of at symbol) (branches_of branches)) (under_of passed state)
-        ≡ decided (decide_for (mappers_of chain.kinds) chain.pools picks state.tables at.0 at.1 state.used s (Some flow)))
-        × Fine (decided (decide_for (mappers_of chain.kinds) chain.pools picks state.tables at.0 at.1 state.used s (Some flow)))
-    unfolding meaning_of
+        → IsMeant (rewriters_of chain) picks first header (under_of passed state) (op (code_of at symbol) (branches_of branches))
+        (decided (decide_for (mappers_of chain.kinds) chain.pools picks state.tables at.0 at.1 state.used s (Some flow)))
+    unfolding meaning_of CanServe
     op_means branches read_all =
         let meant = passage_means branches read_all (decide_for (mappers_of chain.kinds) chain.pools picks state.tables at.0 at.1 state.used s (Some flow)) refl in (
           ap (option_and_then (λ (found : List Spec). meant_at branches (slice_get found at.1))) specs_stand
@@ -228,6 +251,13 @@ module _ (chain : ChainState) (header : List ℕ) (first : PacketState) (header_
               (decide_for (mappers_of chain.kinds) chain.pools picks state.tables at.0 at.1 state.used s (Some f))) same_flow
               ∙ meant.0,
           meant.1,
+          (
+            can_arrive,
+            subst (ServesElement (rewriters_of chain) picks first header (Served branches) (code_of at symbol) (under_of passed state)) (sym specs_stand)
+                (subst (ServesInput (rewriters_of chain) picks first header (Served branches) (code_of at symbol) (under_of passed state)) (sym spec_is)
+                (subst (λ f. ServesDecision (rewriters_of chain) picks first header (Served branches) (under_of passed state) f
+                (decide_for (mappers_of chain.kinds) chain.pools picks state.tables at.0 at.1 state.used s (Some f))) (sym same_flow) meant.2)),
+          ),
         )
 
     passage_agrees : Means (passage_tree chain header along at own symbol specs s) (decided (decide_for (mappers_of chain.kinds) chain.pools picks state.tables at.0 at.1 state.used s (Some flow)))
@@ -237,8 +267,8 @@ module _ (chain : ChainState) (header : List ℕ) (first : PacketState) (header_
             → Means (option_map (λ branches. op (code_of at symbol) (branches_of branches)) found) (decided (decide_for (mappers_of chain.kinds) chain.pools picks state.tables at.0 at.1 state.used s (Some flow)))
         either None e = none_agrees (rewriters_of chain) picks first header (under_of passed state) _
         either (Some branches) e =
-            λ tree is. (let meant = op_means branches e in
-            (ap (λ t. meaning_of (rewriters_of chain) picks first header t (under_of passed state)) (sym (unsome (op (code_of at symbol) (branches_of branches)) tree is)) ∙ meant.0, meant.1))
+            one_agrees (rewriters_of chain) picks first header (under_of passed state) (op (code_of at symbol) (branches_of branches))
+            (decided (decide_for (mappers_of chain.kinds) chain.pools picks state.tables at.0 at.1 state.used s (Some flow))) (op_means branches e)
 
   -- ---- the step
 
@@ -246,7 +276,7 @@ module _ (chain : ChainState) (header : List ℕ) (first : PacketState) (header_
       → Means (rewriter_tree chain header along at own symbol specs found) (option_and_then (goes_on chain picks at.0 own along_run) (run_at_input (mappers_of chain.kinds) chain.pools picks at state found))
   at_spec None is = none_agrees (rewriters_of chain) picks first header (under_of passed state) None
   at_spec (Some s) is =
-      ports_agrees (rewriters_of chain) picks first header (under_of passed state) symbol p shadow.values shadow.are_bytes _ _ _
+      ports_agrees (rewriters_of chain) picks first header (under_of passed state) symbol p shadow.values known shadow.are_bytes _ _ _
       (λ e. subst (λ o. Means (passage_tree chain header along at own symbol specs s) (decided (decide_for (mappers_of chain.kinds) chain.pools picks state.tables at.0 at.1 state.used s o))) (sym (flow_there p e)) (passage_agrees e s is))
       (λ e. subst (λ o. Means (passed_tree chain header along at own symbol (unported s)) (decided (decide_for (mappers_of chain.kinds) chain.pools picks state.tables at.0 at.1 state.used s o))) (sym (flow_gone p e)) (hidden_agrees s))
 

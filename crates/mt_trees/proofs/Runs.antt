@@ -1,4 +1,4 @@
--- The tree of a frame's header means the run of the frame.
+-- The tree of a frame's header means the run of the frame, and the frame can be served by it.
 use Rattle.std.proofs.Common.{◌≡◌, ◌∙◌, sym, ap, subst, refl, ℕ, zero, suc, ◌≤◌, Bool, true, false, List, [], length, arith}
 use Rattle.std.specs.Prelude.{Option, Some, None, if◌then◌else◌, slice_get, option_map, option_and_then}
 use Rattle.std.proofs.lemmas.Bool.{false≢true}
@@ -28,9 +28,9 @@ use Rattle.mt_trees.proofs.Leaving.{Shade, IsGood, under_of, Agree}
 use Rattle.mt_trees.proofs.Rewriters.{rewriter_agrees}
 use Rattle.mt_trees.proofs.Shadow.{is_data, of_front}
 use Rattle.mt_trees.proofs.Steps.{ip_is}
-use Rattle.mt_trees.proofs.Tested.{Fine, none_agrees}
+use Rattle.mt_trees.proofs.Tested.{Fine, IsMeant, none_agrees}
 use Rattle.mt_trees.specs.Elements.{class_tree, element_tree, tree_from, tree_of, is_own}
-use Rattle.mt_trees.specs.Meaning.{meaning_of, rewriters_of, first_under}
+use Rattle.mt_trees.specs.Meaning.{rewriters_of, first_under}
 use Rattle.mt_trees.specs.Symbols.{Symbol, term_at, first_symbol}
 use Rattle.mt_trees.specs.Tests.{Found}
 
@@ -196,8 +196,8 @@ module _ (chain : ChainState) (ranges : IsInRange chain) (numbered : IsNumbered 
     arrives_at = ap (λ h. option_and_then (λ element. run_from (suc (length chain.wires)) chain picks (element, 0) start) (entry_of chain (field_of h of.Device))) header_is
 
     pub tree_means : (tree : TreeForm) → tree_of chain header ≡ Some tree
-        → (meaning_of (rewriters_of chain) picks first header tree (first_under tables) ≡ run_answer chain tables first picks) × Fine (run_answer chain tables first picks)
+        → IsMeant (rewriters_of chain) picks first header (first_under tables) tree (run_answer chain tables first picks)
     unfolding tree_of run_answer
     tree_means tree is =
         let meant = entered (entry_of chain (field_of header of.Device)) tree is in
-        (meant.0 ∙ arrives_at, subst Fine arrives_at meant.1)
+        (meant.0 ∙ arrives_at, subst Fine arrives_at meant.1, meant.2)

@@ -1,5 +1,6 @@
--- What tests of terms mean: a tree of tests goes on by the side to which the values of the packet lead.
-use Rattle.std.proofs.Common.{◌≡◌, ◌∙◌, sym, ap, refl, ℕ, suc, ◌-◌, Bool, true, false, List, [], arith}
+-- What tests of terms mean, and what serving them asks for: a tree of tests goes on by the side to which the values of the
+-- packet lead.
+use Rattle.std.proofs.Common.{◌≡◌, ◌∙◌, sym, ap, subst, refl, ℕ, suc, ◌-◌, ◌≤◌, Bool, true, false, List, [], length, arith}
 use Rattle.std.specs.Prelude.{⊤, Some, None, Ok, Err, ◌==◌, if◌then◌else◌}
 use Rattle.std.proofs.lemmas.Bool.Decides.{nat_tests}
 use Rattle.std.proofs.lemmas.Option.{none-some}
@@ -11,7 +12,7 @@ use Rattle.mt_chain.specs.Run.{Run, Answer}
 use Rattle.mt_terms.specs.Terms.{TermForm, const, entry, minus, flow_part, value_of, passages_of}
 use Rattle.mt_terms.specs.Trees.{TreeForm, test}
 use Rattle.mt_trees.proofs.Writes.{unsome}
-use Rattle.mt_trees.specs.Meaning.{RewritersState, Under, meaning_of}
+use Rattle.mt_trees.specs.Meaning.{RewritersState, Under, OfSide, meaning_of, CanServe}
 use Rattle.mt_trees.specs.Ranges.{AreInRange}
 use Rattle.mt_trees.specs.Tests.{Found, kept, tested}
 
@@ -28,38 +29,55 @@ Fine None = ⊤
 Fine (Some (Ok run)) = AreInRange run.tables
 Fine (Some (Err place)) = ⊤
 
--- the tree that is found means that answer
 module _ (rewriters : RewritersState) (picks : List ℕ) (packet : PacketState) (header : List ℕ) (under : Under) where
+  -- the tree means that answer, and the packet can be served by it
+  abbrev pub IsMeant : TreeForm → Answer Run → Type 0
+  IsMeant tree answer = (meaning_of rewriters picks packet header tree under ≡ answer) × Fine answer × CanServe rewriters picks packet header tree under
+
+  -- so does the tree that is found
   abbrev pub Agrees : Found → Answer Run → Type 0
-  Agrees found answer = (tree : TreeForm) → found ≡ Some tree → (meaning_of rewriters picks packet header tree under ≡ answer) × Fine answer
+  Agrees found answer = (tree : TreeForm) → found ≡ Some tree → IsMeant tree answer
 
   abbrev pub value : TermForm → ℕ
   value term = value_of term header under.passed
 
+  -- the flows of a term are known
+  abbrev pub IsKnown : TermForm → Type 0
+  IsKnown term = passages_of term ≤ length under.passed
+
   pub none_agrees : (answer : Answer Run) → Agrees None answer
   none_agrees answer tree is = absurd (none-some tree is)
+
+  pub one_agrees : (own : TreeForm) (answer : Answer Run) → IsMeant own answer → Agrees (Some own) answer
+  one_agrees own answer meant tree is = subst (λ t. IsMeant t answer) (unsome own tree is) meant
 
   by_side : (term : TermForm) (span : Span) (y n : TreeForm) (b : Bool) → contains_number span (value term) ≡ b
       → meaning_of rewriters picks packet header (test term span y n) under ≡ (if b then meaning_of rewriters picks packet header y under else meaning_of rewriters picks packet header n under)
   unfolding meaning_of
   by_side term span y n b e = ap (λ c. if c then meaning_of rewriters picks packet header y under else meaning_of rewriters picks packet header n under) e
 
-  kept_agrees : (term : TermForm) (span : Span) (inside outside : Found) (answer : Answer Run) → (contains_number span (value term) ≡ true → Agrees inside answer) → (contains_number span (value term) ≡ false → Agrees outside answer)
-      → Agrees (kept term span inside outside) answer
-  kept_agrees term span (Some y) (Some n) answer h k tree is =
-      let meant = either (contains_number span (value term)) refl in
-      (ap (λ t. meaning_of rewriters picks packet header t under) (sym (unsome (test term span y n) tree is)) ∙ meant.0, meant.1)
-    where
-      either : (b : Bool) → contains_number span (value term) ≡ b → (meaning_of rewriters picks packet header (test term span y n) under ≡ answer) × Fine answer
-      either true e = let meant = h e y refl in (by_side term span y n true e ∙ meant.0, meant.1)
-      either false e = let meant = k e n refl in (by_side term span y n false e ∙ meant.0, meant.1)
-  kept_agrees term span (Some y) None answer h k tree is = absurd (none-some tree is)
-  kept_agrees term span None outside answer h k tree is = absurd (none-some tree is)
+  served_side : (term : TermForm) (span : Span) (y n : TreeForm) (b : Bool) → IsKnown term → contains_number span (value term) ≡ b
+      → OfSide b (CanServe rewriters picks packet header y under) (CanServe rewriters picks packet header n under) → CanServe rewriters picks packet header (test term span y n) under
+  unfolding CanServe
+  served_side term span y n b known e served = (
+    known,
+    subst (λ c. OfSide c (CanServe rewriters picks packet header y under) (CanServe rewriters picks packet header n under)) (sym e) served,
+  )
 
-  pub tested_agrees : (term : TermForm) (span : Span) (inside outside : Found) (answer : Answer Run) → (contains_number span (value term) ≡ true → Agrees inside answer)
+  kept_agrees : (term : TermForm) (span : Span) → IsKnown term → (inside outside : Found) (answer : Answer Run) → (contains_number span (value term) ≡ true → Agrees inside answer)
+      → (contains_number span (value term) ≡ false → Agrees outside answer) → Agrees (kept term span inside outside) answer
+  kept_agrees term span known (Some y) (Some n) answer h k = one_agrees (test term span y n) answer (either (contains_number span (value term)) refl)
+    where
+      either : (b : Bool) → contains_number span (value term) ≡ b → IsMeant (test term span y n) answer
+      either true e = let meant = h e y refl in (by_side term span y n true e ∙ meant.0, meant.1, served_side term span y n true known e meant.2)
+      either false e = let meant = k e n refl in (by_side term span y n false e ∙ meant.0, meant.1, served_side term span y n false known e meant.2)
+  kept_agrees term span known (Some y) None answer h k = none_agrees answer
+  kept_agrees term span known None outside answer h k = none_agrees answer
+
+  pub tested_agrees : (term : TermForm) (span : Span) → IsKnown term → (inside outside : Found) (answer : Answer Run) → (contains_number span (value term) ≡ true → Agrees inside answer)
       → (contains_number span (value term) ≡ false → Agrees outside answer) → Agrees (tested header term span inside outside) answer
   unfolding tested
-  tested_agrees term span inside outside answer h k = either (passages_of term == 0) refl
+  tested_agrees term span known inside outside answer h k = either (passages_of term == 0) refl
     where
       decided : (passages_of term == 0) ≡ true → (b : Bool) → contains_number span (value_of term header []) ≡ b → Agrees (if b then inside else outside) answer
       decided e true d = h (ap (contains_number span) (sym (header_value header under.passed term e)) ∙ d)
@@ -67,4 +85,4 @@ module _ (rewriters : RewritersState) (picks : List ℕ) (packet : PacketState) 
 
       either : (b : Bool) → (passages_of term == 0) ≡ b → Agrees (if b then (if contains_number span (value_of term header []) then inside else outside) else kept term span inside outside) answer
       either true e = decided e (contains_number span (value_of term header [])) refl
-      either false e = kept_agrees term span inside outside answer h k
+      either false e = kept_agrees term span known inside outside answer h k

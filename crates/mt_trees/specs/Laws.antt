@@ -12,7 +12,7 @@ use Rattle.mt_chain.specs.Run.{IsThere, Run, run_answer}
 use Rattle.mt_terms.specs.Trees.{TreeForm}
 use Rattle.mt_terms.specs.Writes.{WriteForm}
 use Rattle.mt_trees.specs.Elements.{is_own, rewrite_of, tree_of}
-use Rattle.mt_trees.specs.Meaning.{meaning_of, rewriters_of, first_under}
+use Rattle.mt_trees.specs.Meaning.{meaning_of, CanServe, rewriters_of, first_under}
 use Rattle.mt_trees.specs.Ranges.{AreInRange}
 use Rattle.mt_trees.specs.Symbols.{Symbol}
 
@@ -35,6 +35,15 @@ abbrev pub RunsStayInRange : Type 0
 RunsStayInRange =
     (chain : ChainState) → IsAccepted chain → IsNumbered chain → (device : ℕ) → 0 < device → device ≤ chain.entries → (frame : List ℕ) → AreBytes frame → (stamp number : ℕ)
     → (tables : TablesState) → AreTables chain tables → AreInRange tables → (picks : List ℕ) (run : Run) → run_answer chain tables (arrived frame stamp device number) picks ≡ Some (Ok run) → AreInRange run.tables
+
+-- What serving a packet by the tree of its frame's header asks for holds along the way that the tree's meaning takes:
+-- the flows of each term that is worked out are known, the flow that arrives at a passage fits its types, and at the leaf
+-- the rewrite can be made, without VLAN tags. The premises are those of TreesMeanRuns.
+abbrev pub TreesCanBeServed : Type 0
+TreesCanBeServed =
+    (chain : ChainState) → IsAccepted chain → IsNumbered chain → (frame : List ℕ) → AreBytes frame → (stamp device number : ℕ) → (tables : TablesState) → AreTables chain tables → AreInRange tables
+    → (picks : List ℕ) (tree : TreeForm) → tree_of chain (header_of device frame) ≡ Some tree
+    → CanServe (rewriters_of chain) picks (arrived frame stamp device number) (header_of device frame) tree (first_under tables)
 
 -- the fields ascend from a number on, and none is written with its own value
 abbrev pub AreWrites : ℕ → List WriteForm → Type 0

@@ -1,4 +1,5 @@
--- What a tree means: what becomes of a frame whose header it is the tree of. It has the shape of the run of a packet.
+-- What a tree means: what becomes of a frame whose header it is the tree of. It has the shape of the run of a packet. And
+-- what serving a packet by a tree asks for.
 use Rattle.std.specs.Prelude.{◌≡◌, drop as left, ℕ, ◌≤◌, ◌==◌, Bool, true, false, if◌then◌else◌, List, [], ◌∷◌, ◌++◌, map, length, Option, Some, None, Result, Ok, Err, slice_get, option_and_then}
 use Rattle.mt_packet.specs.Header.{field_of}
 use Rattle.mt_packet.specs.Packet.{PacketState, with_field, checked, CanWrite, IsChecked}
@@ -21,6 +22,7 @@ use Rattle.mt_terms.specs.Terms.{value_of, passages_of}
 use Rattle.mt_terms.specs.Trees.{TreeForm, BranchForms, OpForm, RewriteForm, leaf, drop, test, none, branch}
 use Rattle.mt_terms.specs.Trees.{passage as op}
 use Rattle.mt_terms.specs.Writes.{WriteForm}
+use Rattle.mt_trees.specs.Ranges.{FlowFits}
 
 -- what a tree needs of a chain: the specifications of its elements, the patterns of its mappers, and its pools
 pub record RewritersState : Type 0 where
@@ -71,6 +73,11 @@ pub record CanRewrite (header : List ℕ) (passed : List Flow) (rewrite : Rewrit
   pub valid : rewrite.trim ≡ true → IsChecked packet
   pub allowed : CanWriteAll header passed rewrite.writes (trimmed rewrite.trim packet)
 
+-- one of two sides, by a test
+abbrev pub OfSide : Bool → Type 0 → Type 0 → Type 0
+OfSide true inside outside = inside
+OfSide false inside outside = outside
+
 module _ (rewriters : RewritersState) (picks : List ℕ) (packet : PacketState) (header : List ℕ) where
   abbrev pub ends_as : Fate → Under → Answer Run
   ends_as fate under = Some (Ok (record { fate = fate; tables = under.tables; picks = left under.used picks }))
@@ -120,3 +127,47 @@ module _ (rewriters : RewritersState) (picks : List ℕ) (packet : PacketState) 
     pub meaning_among : BranchForms → ℕ → Under → Answer Run
     meaning_among none out under = None
     meaning_among (branch own tree rest) out under = if own == out then meaning_of tree under else meaning_among rest out under
+
+  -- ---- what serving asks for, along the way that the meaning takes
+
+  -- at a passage: the flows of its terms are known, and the flow that arrives fits its types
+  pub record CanArrive (code : OpForm) (under : Under) : Type 0 where
+    pub sa : passages_of code.sa ≤ length under.passed
+    pub sp : passages_of code.sp ≤ length under.passed
+    pub da : passages_of code.da ≤ length under.passed
+    pub dp : passages_of code.dp ≤ length under.passed
+    pub protocol : field_of header of.Proto ≤ 255
+    pub fits : FlowFits (flow_at code under)
+
+  -- behind it, on the branch of the output by which the packet leaves
+  abbrev pub ServesPassage : (ℕ → Under → Type 0) → Under → Flow → Decision → Passage → Type 0
+  ServesPassage Along under flow decision (passage.Rewritten meeting) = Along meeting.output (behind under decision meeting.after)
+  ServesPassage Along under flow decision (passage.Passed out) = Along out (behind under decision flow)
+  ServesPassage Along under flow decision (passage.Dropped why) = Unit {0}
+
+  abbrev pub ServesDecision : (ℕ → Under → Type 0) → Under → Flow → Result Decision ℕ → Type 0
+  ServesDecision Along under flow (Ok decision) = ServesPassage Along under flow decision decision.passage
+  ServesDecision Along under flow (Err place) = Unit {0}
+
+  abbrev pub ServesInput : (ℕ → Under → Type 0) → OpForm → Under → Option Spec → Type 0
+  ServesInput Along code under None = Unit {0}
+  ServesInput Along code under (Some spec) =
+      ServesDecision Along under (flow_at code under)
+      (decide_for rewriters.mappers rewriters.pools picks under.tables code.element code.input under.used spec (Some (flow_at code under)))
+
+  abbrev pub ServesElement : (ℕ → Under → Type 0) → OpForm → Under → Option (List Spec) → Type 0
+  ServesElement Along code under None = Unit {0}
+  ServesElement Along code under (Some specs) = ServesInput Along code under (slice_get specs code.input)
+
+  -- at a leaf: no VLAN tag is taken off or put on, and the rewrite can be made; at a test: the flows of its term are known
+  unfoldable mutual
+    pub CanServe : TreeForm → Under → Type 0
+    CanServe (leaf rewrite device) under = (rewrite.untag ≡ false) × (rewrite.tag ≡ None) × CanRewrite header under.passed rewrite packet
+    CanServe (drop why) under = Unit {0}
+    CanServe (test term span inside outside) under =
+        (passages_of term ≤ length under.passed) × OfSide (contains_number span (value_of term header under.passed)) (CanServe inside under) (CanServe outside under)
+    CanServe (op code branches) under = CanArrive code under × ServesElement (CanServeAmong branches) code under (slice_get rewriters.specs code.element)
+
+    pub CanServeAmong : BranchForms → ℕ → Under → Type 0
+    CanServeAmong none out under = Unit {0}
+    CanServeAmong (branch own tree rest) out under = OfSide (own == out) (CanServe tree under) (CanServeAmong rest out under)

@@ -1,5 +1,5 @@
 //! The laws of trees. The contract of each function is the law; there is nothing to run.
-ghost use Rattle.mt_trees.specs.Laws.{HeadersHaveTrees, TreesMeanRuns, RunsStayInRange, RewritesAreOrdered};
+ghost use Rattle.mt_trees.specs.Laws.{HeadersHaveTrees, TreesMeanRuns, TreesCanBeServed, RunsStayInRange, RewritesAreOrdered};
 
 use mt_chain::laws::devices_have_entries;
 use mt_kinds::laws::outputs_are_counted;
@@ -30,6 +30,17 @@ pub fn runs_stay_in_range()
     ensures { RunsStayInRange }
 {
     headers_have_trees();
+    decisions_keep_tables();
+    passages_lead();
+    outputs_are_counted();
+}
+
+/// What serving a packet by the tree of its frame's header asks for holds along the way that the tree's meaning takes: the
+/// terms that are worked out speak of passages that lie behind, the flow at a passage fits its types, and the rewrite at
+/// the leaf can be made.
+pub fn trees_can_be_served()
+    ensures { TreesCanBeServed }
+{
     decisions_keep_tables();
     passages_lead();
     outputs_are_counted();
