@@ -8,6 +8,7 @@ mod Nodes
 mod Places
 mod Pushing
 mod Rows
+mod Selecting
 mod Picked
 mod Trees
 mod Unique

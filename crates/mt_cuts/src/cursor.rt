@@ -116,15 +116,22 @@ pub fn earlier(field: Option<Field>, other: Option<Field>) -> Option<Field>
 {
     match field {
         None => other,
-        Some(field) => match other {
-            None => Some(field),
-            Some(other) => {
-                if field.number() <= other.number() {
-                    Some(field)
-                } else {
-                    Some(other)
-                }
+        Some(field) => Some(before(field, other)),
+    }
+}
+
+/// The field of the lower number, where one of them is there.
+pub fn before(field: Field, other: Option<Field>) -> Field
+    ensures { Some result ≡ earlier (Some field) other }
+{
+    match other {
+        None => field,
+        Some(other) => {
+            if field.number() <= other.number() {
+                field
+            } else {
+                other
             }
-        },
+        }
     }
 }
