@@ -1,5 +1,5 @@
 //! Copies of trees.
-ghost use Rattle.std.specs.Prelude.{◌≡◌, ◌≢◌, ℕ, true, IfOk};
+ghost use Rattle.std.specs.Prelude.{◌≡◌, ℕ, true, IfOk};
 ghost use Rattle.mt_packet.specs.declared.field.Field.{Field};
 ghost use Rattle.mt_cuts.specs.Tree.{value_of};
 ghost use Rattle.mt_cuts.specs.View.{tree_of};
@@ -21,36 +21,4 @@ pub fn copied(alloc: Global, devices: u32, settled: usize, tree: &Cut) -> Result
     let none = Cut::leaf(0);
     let mut third = ByFunction { function: &Select };
     merge_behind(alloc, devices, settled, &none, &none, tree, &mut third)
-}
-
-/// A copy of a tree that is good where a condition does not hold. Where it holds for all headers, nothing is
-/// copied.
-pub fn copied_outside(
-    alloc: Global,
-    devices: u32,
-    settled: usize,
-    condition: &Cut,
-    tree: &Cut,
-) -> Result<Cut, AllocError>
-    requires condition { IsRest devices settled 0 (tree_of condition.now) }
-    requires tree { IsRest devices settled 0 (tree_of tree.now) }
-    ensures canonical { IfOk result (λ copy. IsRest devices settled 0 (tree_of copy)) }
-    ensures value { IfOk result (λ copy. (header : Field → ℕ) → value_of (tree_of condition.now) header ≢ 1
-        → value_of (tree_of copy) header ≡ value_of (tree_of tree.now) header) }
-    ensures finishes { IfOk result (λ copy. finishes devices copy ≡ true) }
-{
-    if holds(condition) {
-        return Ok(Cut::leaf(0));
-    }
-    copied(alloc, devices, settled, tree)
-}
-
-/// Whether a condition is 1 for all headers.
-fn holds(condition: &Cut) -> bool
-    ensures { result ≡ true → (header : Field → ℕ) → value_of (tree_of condition.now) header ≡ 1 }
-{
-    match condition {
-        Cut::Class(value) => *value == 1,
-        Cut::Cuts { .. } => false,
-    }
 }

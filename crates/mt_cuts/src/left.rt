@@ -1,13 +1,14 @@
 //! The parts of a tree that is taken apart.
-ghost use Rattle.std.specs.Prelude.{◌≡◌, ◌≢◌, ℕ, true, [], ◌∷◌, IfOk, OnOk, map, drop, slice_get, Some, ◌==◌, if◌then◌else◌};
+ghost use Rattle.std.specs.Prelude.{◌≡◌, ℕ, true, false, [], ◌∷◌, IfOk, OnOk, map, drop, slice_get, Some, ◌==◌, if◌then◌else◌};
 ghost use Rattle.mt_packet.specs.declared.field.Field.{Field};
 ghost use Rattle.mt_cuts.specs.declared.cut.Cut.{Cut};
 ghost use Rattle.mt_cuts.specs.Tree.{value_of};
 ghost use Rattle.mt_cuts.specs.View.{tree_of, chain};
 ghost use Rattle.mt_cuts.specs.Canonical.{IsOrdered, IsRest, finishes, all_true};
 ghost use Rattle.mt_cuts.specs.Walk.{IsPlace, first_end};
+ghost use Rattle.mt_cuts.specs.Skip.{ends_by, past};
 
-use crate::copies::copied_outside;
+use crate::copies::copied;
 use crate::cut::Cut;
 use mt_packet::Field;
 use std::alloc::{AllocError, Global};
@@ -79,8 +80,28 @@ impl Left {
         }
     }
 
-    /// What the first part is up to an end that is not above its own, where a condition does not hold; the
-    /// place is behind that end then. A part that ends there is moved out, and one that goes on is copied.
+    /// Whether the first part ends by a value and others follow.
+    fn ends_by(&self, value: u64) -> bool
+        requires { IsPlace self.now.ends.items self.now.parts.items }
+        ensures { result ≡ ends_by value self.now.ends.items self.now.parts.items }
+    {
+        self.parts.len() > 1 && self.ends[0] <= value
+    }
+
+    /// Goes on behind a value.
+    fn pass(&mut self, value: u64)
+        requires { IsPlace self.old.ends.items self.old.parts.items }
+        ensures ends { self.new.ends.items ≡ (past value self.old.ends.items self.old.parts.items).0 }
+        ensures parts { self.new.parts.items ≡ (past value self.old.ends.items self.old.parts.items).1 }
+    {
+        while self.ends_by(value) {
+            let _ = self.ends.pop_front();
+            let _ = self.parts.pop_front();
+        }
+    }
+
+    /// Goes on behind an end, and returns the first part, unless nothing is wanted of it. A part that ends
+    /// there is moved out, and one that goes on is copied.
     pub fn take(
         &mut self,
         alloc: Global,
@@ -88,23 +109,26 @@ impl Left {
         settled: usize,
         end: u64,
         last: u64,
-        condition: &Cut,
+        is_passed: bool,
     ) -> Result<Cut, AllocError>
         requires place { IsPlace self.old.ends.items self.old.parts.items }
         requires rest { (part : Cut) → slice_get self.old.parts.items 0 ≡ Some part → IsRest devices settled 0 (tree_of part) }
         requires finished { all_true (map (finishes devices) self.old.parts.items) ≡ true }
-        requires condition { IsRest devices settled 0 (tree_of condition.now) }
-        ensures ends { OnOk result (self.new.ends.items
-            ≡ (if first_end last self.old.ends.items self.old.parts.items == end then drop 1 self.old.ends.items else self.old.ends.items)) }
-        ensures parts { OnOk result (self.new.parts.items
-            ≡ (if first_end last self.old.ends.items self.old.parts.items == end then drop 1 self.old.parts.items else self.old.parts.items)) }
+        ensures ends { OnOk result (self.new.ends.items ≡ (if is_passed then (past end self.old.ends.items self.old.parts.items).0
+            else if first_end last self.old.ends.items self.old.parts.items == end then drop 1 self.old.ends.items else self.old.ends.items)) }
+        ensures parts { OnOk result (self.new.parts.items ≡ (if is_passed then (past end self.old.ends.items self.old.parts.items).1
+            else if first_end last self.old.ends.items self.old.parts.items == end then drop 1 self.old.parts.items else self.old.parts.items)) }
         ensures canonical { IfOk result (λ tree. IsRest devices settled 0 (tree_of tree)) }
-        ensures value { (part : Cut) → slice_get self.old.parts.items 0 ≡ Some part → IfOk result (λ tree. (header : Field → ℕ)
-            → value_of (tree_of condition.now) header ≢ 1 → value_of (tree_of tree) header ≡ value_of (tree_of part) header) }
+        ensures value { is_passed ≡ false → (part : Cut) → slice_get self.old.parts.items 0 ≡ Some part
+            → IfOk result (λ tree. (header : Field → ℕ) → value_of (tree_of tree) header ≡ value_of (tree_of part) header) }
         ensures finishes { IfOk result (λ tree. finishes devices tree ≡ true) }
     {
+        if is_passed {
+            self.pass(end);
+            return Ok(Cut::leaf(0));
+        }
         if self.end(last) != end {
-            return copied_outside(alloc, devices, settled, condition, &self.parts[0]);
+            return copied(alloc, devices, settled, &self.parts[0]);
         }
         let _ = self.ends.pop_front();
         match self.parts.pop_front() {

@@ -5,6 +5,7 @@
 
 mod choice;
 mod chooser;
+mod constant;
 mod copies;
 mod cursor;
 mod cut;

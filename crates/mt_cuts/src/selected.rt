@@ -35,19 +35,22 @@ pub fn select(
     select_behind(alloc, devices, 0, condition, yes, no)
 }
 
-/// The least of the ends of the first parts.
-fn least_end(x: &Cursor<'_>, y: &Cursor<'_>, z: &Left, last: u64) -> u64
+/// The least of the ends of the first parts, but for those of a tree that gives no value there.
+fn seen_end(x: &Cursor<'_>, y: &Cursor<'_>, z: &Left, last: u64, fails: bool, holds: bool) -> u64
     requires x { IsPlace x.now.ends.now x.now.parts.now }
     requires y { IsPlace y.now.ends.now y.now.parts.now }
     requires z { IsPlace z.now.ends.items z.now.parts.items }
     ensures { result ≡ min (first_end last x.now.ends.now x.now.parts.now)
-        (min (first_end last y.now.ends.now y.now.parts.now) (first_end last z.now.ends.items z.now.parts.items)) }
+        (min (if fails then last else first_end last y.now.ends.now y.now.parts.now)
+        (if holds then last else first_end last z.now.ends.items z.now.parts.items)) }
 {
-    x.end(last).min(y.end(last).min(z.end(last)))
+    let second = if fails { last } else { y.end(last) };
+    let third = if holds { last } else { z.end(last) };
+    x.end(last).min(second.min(third))
 }
 
 /// The same for trees that cut none of the first fields. It walks the parts of the field that one of them
-/// cuts first side by side.
+/// cuts first side by side, but for those parts of `yes` and `no` whose values are not chosen.
 fn select_behind(
     alloc: Global,
     devices: u32,
@@ -77,21 +80,23 @@ fn select_behind(
     let mut x = condition.parts_at(field);
     let mut y = yes.parts_at(field);
     let mut z = Left::of(alloc, no, field)?;
-    let mut end = least_end(&x, &y, &z, last);
-    let holds = x.first();
+    let test = x.first();
+    let holds = test.holds();
+    let mut end = seen_end(&x, &y, &z, last, test.fails(), holds);
     let taken = z.take(alloc, devices, behind, end, last, holds)?;
-    let mut here = select_behind(alloc, devices, behind, holds, y.first(), taken)?;
+    let mut here = select_behind(alloc, devices, behind, test, y.first(), taken)?;
     let mut parts = Parts {
         ends: Vec::new(alloc),
         next: Vec::new(alloc),
     };
     while end < last {
         x = x.behind(end);
-        y = y.behind(end);
-        let least = least_end(&x, &y, &z, last);
-        let holds = x.first();
+        y = y.past(end);
+        let test = x.first();
+        let holds = test.holds();
+        let least = seen_end(&x, &y, &z, last, test.fails(), holds);
         let taken = z.take(alloc, devices, behind, least, last, holds)?;
-        let part = select_behind(alloc, devices, behind, holds, y.first(), taken)?;
+        let part = select_behind(alloc, devices, behind, test, y.first(), taken)?;
         here = parts.join(here, end, part)?;
         end = least;
     }
