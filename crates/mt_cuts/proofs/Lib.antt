@@ -3,11 +3,14 @@ mod Boxed
 mod Fields
 mod Finished
 mod Loops
+mod Made
 mod Merging
 mod Nodes
 mod Places
 mod Pushing
 mod Rows
+mod Selecting
+mod Skipping
 mod Picked
 mod Trees
 mod Unique

@@ -1,5 +1,5 @@
 -- The loop of a merge: three places, and the node made so far.
-use Rattle.std.proofs.Common.{◌≡◌, ◌⊎◌, ◌+◌, ◌<◌, ◌≤◌, ℕ, suc, List, [], ◌∷◌, ◌++◌, length, map, drop, min, Option, Some, None, Result, Ok, Err, IfOk, slice_get, slice_index, nat_le, refl, sym, ◌∙◌, ap, subst, arith, inl, inr, Bool, true, false, cond, nat_lt, ◌==◌, ◌&&◌}
+use Rattle.std.proofs.Common.{◌≡◌, ◌⊎◌, ◌+◌, ◌<◌, ◌≤◌, ℕ, suc, List, [], ◌∷◌, length, map, drop, min, Option, Some, None, Result, Ok, Err, IfOk, slice_get, slice_index, nat_le, refl, sym, ◌∙◌, ap, subst, arith, inl, inr, Bool, true, false, cond, nat_lt, ◌==◌, ◌&&◌}
 use Rattle.std.proofs.lemmas.List.{length-map}
 use Rattle.std.proofs.lemmas.Bool.{cond-true, cond-false, le-leb, lt-leb, cases_lt, cases_Bool}
 use Rattle.mt_packet.specs.Header.{number_of}
@@ -10,8 +10,8 @@ use Rattle.mt_cuts.specs.View.{tree_of, chain, last_part}
 use Rattle.mt_cuts.specs.Canonical.{IsRest, last_of, finishes, all_true}
 use Rattle.mt_cuts.specs.Walk.{top, earlier, IsPlace, first_end, ends_at, put, Joined}
 use Rattle.mt_cuts.proofs.Walks.{Stands, begins, Ends, stands_place, stands_part, stands_end, stands_value, stands_behind, later_alone}
-use Rattle.mt_cuts.proofs.Merging.{Merging, merging_begins, merging_goes_on, merging_more, merging_weaker, merging_ends}
-use Rattle.mt_cuts.proofs.Finished.{all_finish_more}
+use Rattle.mt_cuts.proofs.Merging.{Merging, merging_weaker}
+use Rattle.mt_cuts.proofs.Made.{made_begins, made_goes, made_ends}
 
 -- a place whose first part goes up to an end at least
 pub record At (d : ℕ) (f : Field) (end : ℕ) (t : Tree) (ends : List ℕ) (parts : List Cut) : Type 0 where
@@ -53,7 +53,7 @@ first_of (q ∷ qs) p is = let same : q ≡ p = cc in ap (λ (c : Cut). Some (tr
 pub first_rest : (d : ℕ) (f : Field) (from : ℕ) (t : Tree) (ends : List ℕ) (parts : List Cut) (p : Cut) → Stands d f from t ends (map tree_of parts) → slice_get parts 0 ≡ Some p → IsRest d (suc (number_of f)) 0 (tree_of p)
 first_rest d f from t ends parts p s is = stands_part d f from t ends (map tree_of parts) (tree_of p) s (first_of parts p is)
 
-first_value : (d : ℕ) (f : Field) (from : ℕ) (t : Tree) (ends : List ℕ) (parts : List Cut) (p : Cut) (end : ℕ) → Stands d f from t ends (map tree_of parts) → slice_get parts 0 ≡ Some p → end ≤ first_end (last_of d f) ends parts
+pub first_value : (d : ℕ) (f : Field) (from : ℕ) (t : Tree) (ends : List ℕ) (parts : List Cut) (p : Cut) (end : ℕ) → Stands d f from t ends (map tree_of parts) → slice_get parts 0 ≡ Some p → end ≤ first_end (last_of d f) ends parts
     → (h : Field → ℕ) → from ≤ h f → (end < last_of d f → h f ≤ end) → value_of t h ≡ value_of (tree_of p) h
 first_value d f from t ends parts p end s is le h low covered =
     stands_value d f from t ends (map tree_of parts) (tree_of p) end s (first_of parts p is) (subst (λ (n : ℕ). end ≤ n) (sym (ends-map (last_of d f) ends parts)) le) h low covered
@@ -110,20 +110,16 @@ pub loop_begins : (d : ℕ) (f : Field) (C : ℕ → ℕ → ℕ → ℕ → Typ
 loop_begins d f C a b c xe ye ze xp yp zp ends parts here p q r end x y z i j k is later means ends_well es ps =
     let e = least_of_three d f 0 _ _ _ (first_ends d f 0 a xe xp x (omega arith)) (first_ends d f 0 b ye yp y (omega arith)) (first_ends d f 0 c ze zp z (omega arith)) in
     let e' = subst (Ends d f 0) (sym is) e in
-    let made = merging_begins d f (Chosen C a b c) (tree_of here) end e' later
-    (part_means d f 0 end C a b c xe ye ze xp yp zp p q r (tree_of here) x y z i j k (omega (arith, is)) (omega (arith, is)) (omega (arith, is)) means) in
+    let m = made_begins d f (Chosen C a b c) ends parts here end e' later
+    (part_means d f 0 end C a b c xe ye ze xp yp zp p q r (tree_of here) x y z i j k (omega (arith, is)) (omega (arith, is)) (omega (arith, is)) means) ends_well es ps in
     record {
       x = record { from = 0; stands = x; low = omega arith; high = omega (arith, is) };
       y = record { from = 0; stands = y; low = omega arith; high = omega (arith, is) };
       z = record { from = 0; stands = z; low = omega arith; high = omega (arith, is) };
-      made = subst (λ (es : List ℕ). Merging d f (Chosen C a b c) es (map tree_of parts) (tree_of here) end) (sym es) (subst (λ (ps : List Cut). Merging d f (Chosen C a b c) [] (map tree_of ps) (tree_of here) end) (sym ps) made);
-      parts_finish = subst (λ (ps : List Cut). all_true (map (finishes d) ps) ≡ true) (sym ps) refl;
-      here_finishes = ends_well;
+      made = m.made;
+      parts_finish = m.parts_finish;
+      here_finishes = m.here_finishes;
     }
-
-map_more : (xs : List Cut) (x : Cut) → map tree_of (xs ++ x ∷ []) ≡ map tree_of xs ++ tree_of x ∷ []
-map_more [] x = refl
-map_more (y ∷ ys) x = ap (λ zs. tree_of y ∷ zs) (map_more ys x)
 
 pub loop_goes : (d : ℕ) (f : Field) (C : ℕ → ℕ → ℕ → ℕ → Type 0) (a b c : Tree) (xe ye ze xe' ye' ze' : List ℕ) (xp yp zp xp' yp' zp' : List Cut) (ends ends' : List ℕ) (parts parts' : List Cut) (here here' part p q r : Cut) (end end' : ℕ)
     → Loop d f (Chosen C a b c) a b c xe ye ze xp yp zp ends parts here end → end < last_of d f
@@ -137,45 +133,15 @@ loop_goes d f C a b c xe ye ze xe' ye' ze' xp yp zp xp' yp' zp' ends ends' parts
     let e = least_of_three d f (suc end) _ _ _ (first_ends d f (suc end) a xe' xp' x (omega arith)) (first_ends d f (suc end) b ye' yp' y (omega arith)) (first_ends d f (suc end) c ze' zp' z (omega arith)) in
     let e' = subst (Ends d f (suc end)) (sym is) e in
     let covered = part_means d f (suc end) end' C a b c xe' ye' ze' xp' yp' zp' p q r (tree_of part) x y z i j k (omega (arith, is)) (omega (arith, is)) (omega (arith, is)) means in
-    let places : (At d f end' a xe' xp' × At d f end' b ye' yp') × At d f end' c ze' zp' = (
-      (
-        record { from = suc end; stands = x; low = e'.from_start; high = omega (arith, is) },
-        record { from = suc end; stands = y; low = e'.from_start; high = omega (arith, is) },
-      ),
-      record { from = suc end; stands = z; low = e'.from_start; high = omega (arith, is) },
-    ) in
-    elim joined [
-      | inl j ↦
-          record {
-            x = places.0.0;
-            y = places.0.1;
-            z = places.1;
-            made = same_lists j.1 j.2 j.3 (merging_goes_on d f (Chosen C a b c) ends (map tree_of parts) (tree_of here) (tree_of part) end end' l.made lt e' j.0 covered);
-            parts_finish = subst (λ (ps : List Cut). all_true (map (finishes d) ps) ≡ true) (sym j.2) l.parts_finish;
-            here_finishes = subst (λ (t : Cut). finishes d t ≡ true) (sym j.3) l.here_finishes;
-          }
-      | inr j ↦
-          record {
-            x = places.0.0;
-            y = places.0.1;
-            z = places.1;
-            made = more_lists j.1 j.2 j.3 (merging_more d f (Chosen C a b c) ends (map tree_of parts) (tree_of here) (tree_of part) end end' l.made lt e' j.0 later covered);
-            parts_finish = subst (λ (ps : List Cut). all_true (map (finishes d) ps) ≡ true) (sym j.2) (all_finish_more d parts here l.parts_finish l.here_finishes);
-            here_finishes = subst (λ (t : Cut). finishes d t ≡ true) (sym j.3) well;
-          }
-    ]
-  where
-    same_lists : ends' ≡ ends → parts' ≡ parts → here' ≡ here → Merging d f (Chosen C a b c) ends (map tree_of parts) (tree_of here) end' → Merging d f (Chosen C a b c) ends' (map tree_of parts') (tree_of here') end'
-    same_lists es ps h m =
-        subst (λ (es : List ℕ). Merging d f (Chosen C a b c) es (map tree_of parts') (tree_of here') end') (sym es)
-        (subst (λ (ps : List Cut). Merging d f (Chosen C a b c) ends (map tree_of ps) (tree_of here') end') (sym ps)
-        (subst (λ (t : Cut). Merging d f (Chosen C a b c) ends (map tree_of parts) (tree_of t) end') (sym h) m))
-
-    more_lists : ends' ≡ ends ++ end ∷ [] → parts' ≡ parts ++ here ∷ [] → here' ≡ part → Merging d f (Chosen C a b c) (ends ++ end ∷ []) (map tree_of parts ++ tree_of here ∷ []) (tree_of part) end' → Merging d f (Chosen C a b c) ends' (map tree_of parts') (tree_of here') end'
-    more_lists es ps h m =
-        subst (λ (es : List ℕ). Merging d f (Chosen C a b c) es (map tree_of parts') (tree_of here') end') (sym es)
-        (subst (λ (ts : List Tree). Merging d f (Chosen C a b c) (ends ++ end ∷ []) ts (tree_of here') end') (sym (ap (map tree_of) ps ∙ map_more parts here))
-        (subst (λ (t : Cut). Merging d f (Chosen C a b c) (ends ++ end ∷ []) (map tree_of parts ++ tree_of here ∷ []) (tree_of t) end') (sym h) m))
+    let m = made_goes d f (Chosen C a b c) ends ends' parts parts' here here' part end end' (record { made = l.made; parts_finish = l.parts_finish; here_finishes = l.here_finishes }) lt e' later covered well joined in
+    record {
+      x = record { from = suc end; stands = x; low = e'.from_start; high = omega (arith, is) };
+      y = record { from = suc end; stands = y; low = e'.from_start; high = omega (arith, is) };
+      z = record { from = suc end; stands = z; low = e'.from_start; high = omega (arith, is) };
+      made = m.made;
+      parts_finish = m.parts_finish;
+      here_finishes = m.here_finishes;
+    }
 
 -- the fields that three trees cut first
 NotBefore : Field → Option Field → Type 0
@@ -292,18 +258,10 @@ least_above d f end end' a b c xe ye ze xp yp zp m lt is =
     let z = first_ends d f (suc end) c ze zp m.z (omega arith) in
     omega (arith, is, x.from_start, y.from_start, z.from_start)
 
--- the result, in the fields behind the settled ones
-pub settled_rest : (d k : ℕ) (f : Field) (t : Tree) → k ≤ number_of f → IsRest d (number_of f) 0 t → IsRest d k 0 t
-settled_rest d k f (class value) le r = tt
-settled_rest d k f broken le r = r
-settled_rest d k f (cut g e low high) le r =
-    record { rises = omega (arith, r.rises); from_least = r.from_least; goes_on = λ same. omega arith; before_last = r.before_last; low_rest = r.low_rest; high_rest = r.high_rest; apart = r.apart }
-
 pub loop_ends : (d k : ℕ) (f : Field) (P : (Field → ℕ) → ℕ → Type 0) (a b c : Tree) (xe ye ze : List ℕ) (xp yp zp : List Cut) (ends : List ℕ) (parts : List Cut) (here : Cut) (end : ℕ)
     → Loop d f P a b c xe ye ze xp yp zp ends parts here end → last_of d f ≤ end → k ≤ number_of f → (t : Tree) → t ≡ put f ends (map tree_of parts) (tree_of here) → IsRest d k 0 t × ((h : Field → ℕ) → P h (value_of t h))
 loop_ends d k f P a b c xe ye ze xp yp zp ends parts here end l whole le t is =
-    let facts = merging_ends d f P ends (map tree_of parts) (tree_of here) end l.made whole in
-    (settled_rest d k f t le (subst (IsRest d (number_of f) 0) (sym is) facts.0), λ h. subst (λ (t : Tree). P h (value_of t h)) (sym is) (facts.1 h))
+    made_ends d k f P ends parts here end l.made whole le t is
 
 pub loop_lengths : (d : ℕ) (f : Field) (P : (Field → ℕ) → ℕ → Type 0) (a b c : Tree) (xe ye ze : List ℕ) (xp yp zp : List Cut) (ends : List ℕ) (parts : List Cut) (here : Cut) (end : ℕ)
     → Loop d f P a b c xe ye ze xp yp zp ends parts here end → length ends ≡ length parts

@@ -1,6 +1,7 @@
 pub mod Boxes
 pub mod Canonical
 pub mod Leaves
+pub mod Skip
 pub mod Tree
 pub mod View
 pub mod Walk

@@ -4,6 +4,7 @@ ghost use Rattle.mt_cuts.specs.Tree.{value_of};
 ghost use Rattle.mt_cuts.specs.View.{tree_of, chain};
 ghost use Rattle.mt_cuts.specs.Canonical.{IsOrdered};
 ghost use Rattle.mt_cuts.specs.Walk.{top, earlier, IsPlace, first_end, ends_at};
+ghost use Rattle.mt_cuts.specs.Skip.{ends_by, past};
 ghost use Rattle.mt_packet.specs.declared.field.Field.{Field};
 
 use crate::cut::Cut;
@@ -108,6 +109,30 @@ impl<'a> Cursor<'a> {
             *self
         }
     }
+
+    /// Whether the first part ends by a value and others follow.
+    fn ends_by(&self, value: u64) -> bool
+        requires { IsPlace self.now.ends.now self.now.parts.now }
+        ensures { result ≡ ends_by value self.now.ends.now self.now.parts.now }
+    {
+        self.parts.len() > 1 && self.ends[0] <= value
+    }
+
+    /// The place behind a value.
+    pub fn past(&self, value: u64) -> Cursor<'a>
+        requires { IsPlace self.now.ends.now self.now.parts.now }
+        ensures ends { result.ends.now ≡ (past value self.now.ends.now self.now.parts.now).0 }
+        ensures parts { result.parts.now ≡ (past value self.now.ends.now self.now.parts.now).1 }
+    {
+        let mut here = *self;
+        while here.ends_by(value) {
+            here = Cursor {
+                ends: &here.ends[1..],
+                parts: &here.parts[1..],
+            };
+        }
+        here
+    }
 }
 
 /// The field of the lower number.
@@ -116,15 +141,22 @@ pub fn earlier(field: Option<Field>, other: Option<Field>) -> Option<Field>
 {
     match field {
         None => other,
-        Some(field) => match other {
-            None => Some(field),
-            Some(other) => {
-                if field.number() <= other.number() {
-                    Some(field)
-                } else {
-                    Some(other)
-                }
+        Some(field) => Some(before(field, other)),
+    }
+}
+
+/// The field of the lower number, where one of them is there.
+pub fn before(field: Field, other: Option<Field>) -> Field
+    ensures { Some result ≡ earlier (Some field) other }
+{
+    match other {
+        None => field,
+        Some(other) => {
+            if field.number() <= other.number() {
+                field
+            } else {
+                other
             }
-        },
+        }
     }
 }

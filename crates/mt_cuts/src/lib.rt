@@ -5,11 +5,14 @@
 
 mod choice;
 mod chooser;
+mod constant;
+mod copies;
 mod cursor;
 mod cut;
 mod domain;
 pub mod laws;
 mod leaves;
+mod left;
 mod merged;
 mod pairs;
 mod parts;

@@ -156,6 +156,45 @@ fn joined(alloc: Global) -> Result<String, AllocError> {
     format!(in alloc; "{both:?} {whole:?} {again:?} {one:?} {same} {other}{spans}")
 }
 
+/// A rule in front of a list of several levels. Parts of the list go on behind the rule's ends, or are cut at
+/// later fields alone.
+fn ruled(alloc: Global) -> Result<String, AllocError> {
+    let low = split(
+        alloc,
+        1,
+        Field::Dst,
+        Span { lo: 5, hi: 6 },
+        &Cut::leaf(2),
+        &Cut::leaf(3),
+    )?;
+    let list = split(
+        alloc,
+        1,
+        Field::Src,
+        Span { lo: 0, hi: 9 },
+        &low,
+        &Cut::leaf(4),
+    )?;
+    let port = split(
+        alloc,
+        1,
+        Field::Dport,
+        Span { lo: 80, hi: 80 },
+        &Cut::leaf(1),
+        &Cut::leaf(0),
+    )?;
+    let rule = split(
+        alloc,
+        1,
+        Field::Src,
+        Span { lo: 8, hi: 12 },
+        &port,
+        &Cut::leaf(0),
+    )?;
+    let ruled = select(alloc, 1, &rule, &Cut::leaf(7), list)?;
+    format!(in alloc; "{ruled:?}")
+}
+
 /// Trees written out by hand.
 #[test]
 fn trees_are_merged_and_neighbours_join(rt: HostRuntime) {
@@ -169,6 +208,11 @@ fn trees_are_merged_and_neighbours_join(rt: HostRuntime) {
     assert_eq!(rt;
         got.as_str(),
         "Cuts { field: Ttl, ends: [20, 255], next: [Class(1), Class(0)] } Cuts { field: Ttl, ends: [20, 255], next: [Class(1), Class(0)] } Cuts { field: Ttl, ends: [9, 255], next: [Class(1), Class(0)] } Cuts { field: Ttl, ends: [9, 20, 255], next: [Class(0), Class(1), Class(0)] } true false 0-9:0 10-20:1 21-255:0"
+    );
+    let got = ruled(alloc).expect(&rt, "memory");
+    assert_eq!(rt;
+        got.as_str(),
+        "Cuts { field: Src, ends: [7, 9, 12, 4294967295], next: [Cuts { field: Dst, ends: [4, 6, 4294967295], next: [Class(3), Class(2), Class(3)] }, Cuts { field: Dst, ends: [4, 6, 4294967295], next: [Cuts { field: Dport, ends: [79, 80, 65536], next: [Class(3), Class(7), Class(3)] }, Cuts { field: Dport, ends: [79, 80, 65536], next: [Class(2), Class(7), Class(2)] }, Cuts { field: Dport, ends: [79, 80, 65536], next: [Class(3), Class(7), Class(3)] }] }, Cuts { field: Dport, ends: [79, 80, 65536], next: [Class(4), Class(7), Class(4)] }, Class(4)] }"
     );
 }
 
