@@ -21,6 +21,7 @@ pub fn select(
     requires condition { IsCanonical devices (tree_of condition.now) }
     requires first { IsCanonical devices (tree_of yes.now) }
     requires second { IsCanonical devices (tree_of no) }
+    requires finished { finishes devices no ≡ true }
     ensures canonical { IfOk result (λ tree. IsCanonical devices (tree_of tree)) }
     ensures value { IfOk result (λ tree. (header : Field → ℕ) → value_of (tree_of tree) header
         ≡ (if value_of (tree_of condition.now) header == 1 then value_of (tree_of yes.now) header else value_of (tree_of no) header)) }
