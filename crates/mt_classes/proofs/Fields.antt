@@ -9,7 +9,7 @@ use Rattle.mt_packet.specs.declared.span.Span.{Span}
 use Rattle.mt_boxes.specs.Boxes.{IsWithin, InBox}
 use Rattle.mt_cuts.specs.Tree.{Tree, class, value_of}
 use Rattle.mt_cuts.specs.Canonical.{InDomain, IsCanonical, is_within}
-use Rattle.mt_classes.specs.Partition.{IsHeaderOf}
+use Rattle.mt_cuts.specs.Headers.{IsHeaderOf}
 use Rattle.mt_classes.specs.Parts.{Tells, TellsBox}
 
 -- the tree tells the headers whose values from a field on lie in their spans

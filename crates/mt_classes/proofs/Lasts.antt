@@ -8,7 +8,8 @@ use Rattle.mt_packet.specs.declared.field.Field.TheVariants.{Device, EthType, Et
 use Rattle.mt_packet.specs.declared.span.Span.{Span}
 use Rattle.mt_boxes.specs.Boxes.{InBox, IsIn, span_at}
 use Rattle.mt_cuts.specs.Canonical.{least_of, last_of}
-use Rattle.mt_classes.specs.Partition.{IsHeaderOf, HasClass, AreOnDevices, IsPartition}
+use Rattle.mt_classes.specs.Partition.{HasClass, AreOnDevices, IsPartition}
+use Rattle.mt_cuts.specs.Headers.{IsHeaderOf}
 use Rattle.mt_classes.specs.Parts.{last_device, last_of_all}
 
 max_upto : (a b n : ℕ) → a ≤ n → b ≤ n → max a b ≤ n

@@ -1,16 +1,10 @@
 -- Classes that are together all headers of a chain, by their regions in order.
-use Rattle.std.specs.Prelude.{ℕ, ◌≡◌, ◌<◌, ◌≤◌, List, [], ◌∷◌, length, slice_index_or}
+use Rattle.std.specs.Prelude.{ℕ, ◌≡◌, ◌<◌, ◌≤◌, List, [], ◌∷◌, slice_index_or}
 use Rattle.mt_packet.specs.Header.{field_of}
 use Rattle.mt_packet.specs.declared.span.Span.{Span}
 use Rattle.mt_boxes.specs.Boxes.{IsIn, span_at}
-use Rattle.mt_cuts.specs.Canonical.{InDomain}
+use Rattle.mt_cuts.specs.Headers.{IsHeaderOf}
 use Rattle.mt_cuts.specs.Tree.{Tree, value_of}
-
--- a header of a chain with so many devices: a value for each field, in the field's range, the device from 1 to
--- their number
-pub record IsHeaderOf (devices : ℕ) (header : List ℕ) : Type 0 where
-  pub whole : length header ≡ 24
-  pub in_domain : InDomain devices (field_of header)
 
 -- the region of this number has the header
 abbrev pub HasClass : List (List (List Span)) → ℕ → List ℕ → Type 0

@@ -4,8 +4,9 @@ use Rattle.std.specs.Prelude.{ℕ, ◌≡◌, ◌+◌, ◌⊎◌, max, List, [],
 use Rattle.mt_packet.specs.Header.{field_of}
 use Rattle.mt_packet.specs.declared.span.Span.{Span}
 use Rattle.mt_boxes.specs.Boxes.{InBox, IsIn, span_at}
+use Rattle.mt_cuts.specs.Headers.{IsHeaderOf}
 use Rattle.mt_cuts.specs.Tree.{Tree, value_of}
-use Rattle.mt_classes.specs.Partition.{IsHeaderOf, HasClass}
+use Rattle.mt_classes.specs.Partition.{HasClass}
 
 -- one value where something holds, and another where it does not
 abbrev pub Tells : Type 0 → ℕ → ℕ → ℕ → Type 0

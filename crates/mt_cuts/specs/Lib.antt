@@ -1,5 +1,6 @@
 pub mod Boxes
 pub mod Canonical
+pub mod Headers
 pub mod Leaves
 pub mod Skip
 pub mod Tree

@@ -10,7 +10,7 @@ use Rattle.mt_boxes.proofs.Meets.{header_length}
 use Rattle.std.proofs.lemmas.Option.{get_or_from_slice_get}
 use Rattle.mt_cuts.specs.Canonical.{InDomain, least_of, last_of}
 use Rattle.mt_cuts.specs.Leaves.{fields, full}
-use Rattle.mt_synth.specs.Classes.{IsHeaderOf}
+use Rattle.mt_cuts.specs.Headers.{IsHeaderOf}
 use Rattle.mt_synth.proofs.LeafBoxes.{Fits}
 use Rattle.mt_synth.proofs.Places.{same_Some}
 

@@ -37,7 +37,7 @@ use Rattle.mt_synth.specs.Cuts.{TreeAt, Means, AreBehind, tree_numbered, number_
 use Rattle.mt_synth.specs.Exits.{Exits, counted, check_exits, route_exits, rewriter_exits, exits_of, number_in}
 use Rattle.mt_synth.specs.Symbols.{IsPaint, symbol_form}
 use Rattle.mt_synth.specs.declared.exits.Exit.{Exit}
-use Rattle.mt_synth.proofs.MeansKept.{means_same}
+use Rattle.mt_synth.proofs.Meant.{means_values}
 use Rattle.mt_synth.proofs.RoutesSorted.{length-by_length}
 
 -- ---- how many exits there are
@@ -183,7 +183,7 @@ module _ (devices : ℕ) (chain : ChainState) (at : ℕ × ℕ) (symbol : Symbol
   first_stands : (xs : List Cut) (copy : cutting.Tree) (tree_at : TreeAt) → 0 < length xs → ((cut : Cut) → slice_get xs 0 ≡ Some cut → (header : Field → ℕ) → value_of copy header ≡ value_of (tree_of cut) header)
       → ((cut : Cut) → slice_get xs 0 ≡ Some cut → Means devices old (tree_of cut) tree_at) → Means devices old copy tree_at
   first_stands [] copy tree_at some same means = absurd (omega (arith, some))
-  first_stands (cut ∷ xs) copy tree_at some same means = means_same devices old (tree_of cut) copy tree_at (same cut refl) (means cut refl)
+  first_stands (cut ∷ xs) copy tree_at some same means = means_values devices old (tree_of cut) copy tree_at (same cut refl) (means cut refl)
 
   copied_joined : (own : Kind) (copy : cutting.Tree) (out : ℕ) (next : Symbol) → exits_of chain at own symbol ≡ (out, next) ∷ []
       → ((header : List ℕ) (along : Along) → class_tree chain header along at own symbol ≡ leaves chain header along at own next out) → OnePerExit own → IsFirst copy → Joined old copy own

@@ -15,7 +15,8 @@ use Rattle.mt_terms.specs.Trees.{TreeForm, tree_form}
 use Rattle.mt_terms.specs.declared.tree.Tree.{Tree}
 use Rattle.mt_synth.specs.declared.fault.SynthFault.{SynthFault}
 use Rattle.mt_synth.specs.declared.fault.SynthFault.TheVariants.{TooManyClasses, NoMemory}
-use Rattle.mt_synth.specs.Classes.{IsHeaderOf, Class, IsClass, boxes_with, AreClasses, IsFaultOf, tree_at}
+use Rattle.mt_cuts.specs.Headers.{IsHeaderOf}
+use Rattle.mt_synth.specs.Classes.{Class, IsClass, boxes_with, AreClasses, IsFaultOf, tree_at}
 use Rattle.mt_synth.specs.Collecting.{AreCollected, AreApart}
 use Rattle.mt_synth.specs.Numbering.{IsNumbering, Occurs, AreTooMany}
 use Rattle.mt_synth.proofs.AllHeaders.{all_fits, in_all, all_in, listed_is, listed_header}
@@ -141,6 +142,12 @@ module _ (d : ℕ) (t : CutTree) (trees : List Tree) (leaves : List Leaf) (some 
     classes_made = record {
       covers = λ header has. (let c = class_at header has in
           (c.0, boxes_with c.1 leaves, tree_form c.2, c.6, c.7, ap (λ v. option_map tree_form (slice_get trees v)) c.3 ∙ ap (option_map tree_form) c.5));
+      had = λ number region tree e. (let a = class_is number region tree e in
+          let o = is.occurs a.0 number a.1 in
+          let l = map_from (λ (leaf : Leaf). leaf.value) leaves o.0 a.0 o.1 in
+          let h = leaf_header o.0 l.0 l.1 in
+          let c = corner_in header_ranges l.0.spans (shared.formed o.0 l.0 l.1) in
+          (corner l.0.spans, h.0, subst (λ (bs : List (List Span)). IsIn bs (corner l.0.spans)) (sym a.4) (box_of_leaf a.0 leaves (corner l.0.spans) o.0 l.0 l.1 l.2 c)));
       once = λ header i j r s u w e f m n. (let a = class_is i r u e in let b = class_is j s w f in
           one_number i j a.0 b.0 a.1 b.1 (sym (region_value i a.0 r header a.4 m) ∙ region_value j b.0 s header b.4 n));
       apart = λ i j r s tree e f. (let a = class_is i r tree e in let b = class_is j s tree f in

@@ -11,7 +11,6 @@ pub mod LastToFirst
 pub mod LeafBoxes
 pub mod ListsTried
 pub mod Marks
-pub mod MeansKept
 pub mod Meant
 pub mod Numbered
 pub mod Outputs
@@ -19,6 +18,7 @@ pub mod PatternSizes
 pub mod PatternsDecided
 pub mod PatternsTried
 pub mod Places
+pub mod Remembered
 pub mod Renamed
 pub mod RewriterExits
 pub mod RewriterParts

@@ -27,7 +27,7 @@ use Rattle.mt_trees.specs.Tests.{tested, pattern_tried, clauses_tried}
 use Rattle.mt_synth.specs.Cuts.{TreeAt, Means, Grows, AreBehind, AreCanonical}
 use Rattle.mt_synth.specs.Exits.{counted, route_exits}
 use Rattle.mt_synth.specs.Exits.{with_gateway as gateway_set}
-use Rattle.mt_synth.proofs.MeansKept.{means_grow}
+use Rattle.mt_synth.proofs.Meant.{means_later}
 
 -- ---- lists
 
@@ -98,7 +98,7 @@ module _ (devices : ℕ) (symbol : Symbol) (cuts : List Cut) (old : List Tree) w
       let here : TreeAt = λ header. leaves chain header (along header) at own symbol n in
       subst (λ (rest : List (List Clause)). Means devices new next (λ header. classifier_tree chain header (along header) at own symbol n rest)) (sym (from_place all n first is))
       (tries here (λ header. classifier_tree chain header (along header) at own symbol (suc n) (drop (suc n) all))
-      (means_grow devices old mid (tree_of cut) here grows (behind n (n, symbol) cut (get_counted (length all) symbol n (slice_get_within all n first is)) is_cut))
+      (means_later devices old mid (tree_of cut) here grows (behind n (n, symbol) cut (get_counted (length all) symbol n (slice_get_within all n first is)) is_cut))
       (stands chain along at own behind))
 
   -- ---- an IPClassifier
@@ -120,7 +120,7 @@ module _ (devices : ℕ) (symbol : Symbol) (cuts : List Cut) (old : List Tree) w
       let here : TreeAt = λ header. leaves chain header (along header) at own symbol n in
       subst (λ (rest : List Pattern). Means devices new next (λ header. ip_classifier_tree chain header (along header) at own symbol n rest)) (sym (from_place all n first is))
       (tries here (λ header. ip_classifier_tree chain header (along header) at own symbol (suc n) (drop (suc n) all))
-      (means_grow devices old mid (tree_of cut) here grows (behind n (n, symbol) cut (get_counted (length all) symbol n (slice_get_within all n first is)) is_cut))
+      (means_later devices old mid (tree_of cut) here grows (behind n (n, symbol) cut (get_counted (length all) symbol n (slice_get_within all n first is)) is_cut))
       (stands chain along at own behind))
 
   -- ---- an IPFilter
@@ -139,7 +139,7 @@ module _ (devices : ℕ) (symbol : Symbol) (cuts : List Cut) (old : List Tree) w
 
   sent_stands : (all : List Rule) (out : ℕ) (mid : List Tree) (cut : Cut) → out + 1 ≤ filter_outs all → slice_get cuts out ≡ Some cut → Grows old mid → ActionStands all (Out out) mid cut
   sent_stands all out mid cut most is_cut grows chain along at own behind =
-      means_grow devices old mid (tree_of cut) (λ header. leaves chain header (along header) at own symbol out) grows
+      means_later devices old mid (tree_of cut) (λ header. leaves chain header (along header) at own symbol out) grows
       (behind out (out, symbol) cut (get_counted (filter_outs all) symbol out (omega (arith, most))) is_cut)
 
   pub inside_stands : (all : List Rule) (action : FilterAction) (mid : List Tree) (denied inside : Cut) → action_outs action ≤ filter_outs all
@@ -183,7 +183,7 @@ module _ (devices : ℕ) (symbol : Symbol) (cuts : List Cut) (old : List Tree) w
       → (chain : ChainState) (along : List ℕ → Along) (at : ℕ × ℕ) (own : Kind) → AreBehind devices old chain along at own (route_exits hops symbol) cuts
       → Means devices mid (tree_of cut) (λ header. leaves chain header (along header) at own (with_gateway chain header (along header) at symbol hop.gateway) hop.out)
   hop_stands hops n hop cut mid is is_cut grows chain along at own behind header inside tree found =
-      means_grow devices old mid (tree_of cut) (λ header. leaves chain header (along header) at own (gateway_set symbol hop.gateway) hop.out) grows
+      means_later devices old mid (tree_of cut) (λ header. leaves chain header (along header) at own (gateway_set symbol hop.gateway) hop.out) grows
       (behind n (hop.out, gateway_set symbol hop.gateway) cut (get_mapped (λ (hop : Hop). (hop.out, gateway_set symbol hop.gateway)) (by_length hops) n hop is) is_cut)
       header inside tree (ap (λ (next : Symbol). leaves chain header (along header) at own next hop.out) (same_gateway chain header (along header) at hop.gateway) ∙ found)
 

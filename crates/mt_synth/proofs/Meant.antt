@@ -4,12 +4,18 @@ use Rattle.std.proofs.lemmas.Option.{none-some}
 use Rattle.std.specs.Prelude.{if◌then◌else◌}
 use Rattle.mt_packet.specs.Header.{field_of}
 use Rattle.mt_packet.specs.declared.field.Field.{Field}
+use Rattle.mt_kinds.specs.declared.kind.Kind.{Kind}
+use Rattle.mt_elements.specs.ChainState.{ChainState}
+use Rattle.mt_cuts.specs.View.{tree_of}
+use Rattle.mt_cuts.specs.declared.cut.Cut.{Cut}
 use Rattle.mt_cuts.specs.Tree as cuts
 use Rattle.mt_cuts.specs.Tree.{value_of}
 use Rattle.mt_terms.specs.Trees.{TreeForm}
 use Rattle.mt_terms.specs.declared.tree.Tree.{Tree}
+use Rattle.mt_trees.specs.Elements.{Along, leaves}
 use Rattle.mt_trees.specs.Tests.{Found}
-use Rattle.mt_synth.specs.Cuts.{TreeAt, Means, IsCondition, Grows, tree_numbered}
+use Rattle.mt_synth.specs.Cuts.{TreeAt, Means, IsCondition, Grows, AreBehind, tree_numbered}
+use Rattle.mt_synth.specs.Exits.{Exits}
 
 -- two functions that are equal at each header
 pub means_same : (devices : ℕ) (trees : List Tree) (made : cuts.Tree) (f g : TreeAt) → ((header : List ℕ) → g header ≡ f header) → Means devices trees made f → Means devices trees made g
@@ -22,6 +28,12 @@ means_values devices trees made other f same means header domain tree is = ap (t
 -- a later table
 pub means_later : (devices : ℕ) (old new : List Tree) (made : cuts.Tree) (f : TreeAt) → Grows old new → Means devices old made f → Means devices new made f
 means_later devices old new made f grows means header domain tree is = grows _ tree (means header domain tree is)
+
+-- the trees of cuts behind exits
+pub behind_later : (devices : ℕ) (old new : List Tree) (chain : ChainState) (along : List ℕ → Along) (at : ℕ × ℕ) (own : Kind) (exits : Exits) (cuts : List Cut) → Grows old new
+    → AreBehind devices old chain along at own exits cuts → AreBehind devices new chain along at own exits cuts
+behind_later devices old new chain along at own exits cuts grows behind place exit cut is_exit is_cut =
+    means_later devices old new (tree_of cut) (λ header. leaves chain header (along header) at own exit.1 exit.0) grows (behind place exit cut is_exit is_cut)
 
 -- a later one of a later one
 pub grows_on : (a b c : List Tree) → Grows a b → Grows b c → Grows a c

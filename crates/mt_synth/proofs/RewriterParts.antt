@@ -21,7 +21,7 @@ use Rattle.mt_trees.specs.Symbols.{Symbol, annotated}
 use Rattle.mt_trees.specs.Tests.{ports_tested}
 use Rattle.mt_synth.specs.Cuts.{TreeAt, Means, Grows, AreBehind}
 use Rattle.mt_synth.specs.Exits.{Exits, passed_exits, taken_exits}
-use Rattle.mt_synth.proofs.MeansKept.{behind_grow, means_same}
+use Rattle.mt_synth.proofs.Meant.{behind_later, means_values}
 
 pub unported_drops : (s : Spec) → ((out : ℕ) → s ≡ spec.Pass out → ⊥) → unported s ≡ passage.Dropped Unported
 unported_drops spec.Drop h = refl
@@ -58,14 +58,14 @@ module _ (devices : ℕ) (old new : List Tree) (symbol : Symbol) (at : ℕ × �
   drops_stand s before exits cuts other none grows means ported =
       subst (λ (p : Passage). Stands s p before exits cuts) (sym (unported_drops s none))
       (λ chain along own specs are behind_them. ported chain along own specs s (λ header. dropped Unported) are
-      (behind_grow devices before old chain along at own (taken_exits chain at specs s symbol) cuts grows behind_them) means)
+      (behind_later devices before old chain along at own (taken_exits chain at specs s symbol) cuts grows behind_them) means)
 
   first_stands : (cuts : List Cut) (other : cutting.Tree) (chain : ChainState) (along : List ℕ → Along) (own : Kind) (out : ℕ) (more : Exits) → 0 < length cuts
       → ((cut : Cut) → slice_get cuts 0 ≡ Some cut → (header : Field → ℕ) → value_of other header ≡ value_of (tree_of cut) header)
       → AreBehind devices old chain along at own ((out, annotated symbol) ∷ more) cuts → Means devices old other (λ header. leaves chain header (along header) at own (annotated symbol) out)
   first_stands [] other chain along own out more some same behind_them = absurd (omega (arith, some))
   first_stands (cut ∷ cuts) other chain along own out more some same behind_them =
-      means_same devices old (tree_of cut) other (λ header. leaves chain header (along header) at own (annotated symbol) out) (same cut refl) (behind_them 0 (out, annotated symbol) cut refl refl)
+      means_values devices old (tree_of cut) other (λ header. leaves chain header (along header) at own (annotated symbol) out) (same cut refl) (behind_them 0 (out, annotated symbol) cut refl refl)
 
   -- an input that passes it
   pub pass_stands : (s : Spec) (out : ℕ) (exits rest : Exits) (cuts tail : List Cut) (other : cutting.Tree) → s ≡ spec.Pass out → 0 < length cuts → rest ≡ drop 1 exits → tail ≡ drop 1 cuts

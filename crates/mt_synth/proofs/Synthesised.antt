@@ -11,7 +11,8 @@ use Rattle.mt_cuts.specs.Tree.{value_of}
 use Rattle.mt_terms.specs.Trees.{TreeForm, tree_form}
 use Rattle.mt_terms.specs.declared.tree.Tree.{Tree}
 use Rattle.mt_chain.specs.Run.{IsThere}
-use Rattle.mt_synth.specs.Classes.{Class, IsHeaderOf, AreClasses, HasTrees, IsFaultOf, tree_at}
+use Rattle.mt_cuts.specs.Headers.{IsHeaderOf}
+use Rattle.mt_synth.specs.Classes.{Class, AreClasses, HasTrees, IsFaultOf, tree_at}
 use Rattle.mt_synth.specs.Cuts.{TreeAt, AreApart}
 use Rattle.mt_synth.specs.declared.fault.SynthFault.{SynthFault}
 use Rattle.mt_synth.specs.declared.fault.SynthFault.TheVariants.{TooManyClasses, NoMemory}
@@ -22,6 +23,7 @@ module _ (devices : ℕ) (one other : List ℕ → Option TreeForm) (same : (hea
   pub classes_same : (classes : List Class) → AreClasses devices one classes → AreClasses devices other classes
   classes_same classes are = record {
     covers = λ header whole. let here = are.covers header whole in (here.0, here.1, here.2, here.3, here.4, sym (same header whole) ∙ here.5);
+    had = are.had;
     once = are.once;
     apart = are.apart;
     ascend = are.ascend;

@@ -3,7 +3,6 @@ use Rattle.std.proofs.Common.{◌≡◌, ◌∙◌, sym, ap, refl, subst, ℕ, �
 use Rattle.std.proofs.lemmas.List.{reverse-append}
 use Rattle.mt_packet.specs.declared.field.Field.{Field}
 use Rattle.mt_packet.specs.declared.span.Span.{Span}
-use Rattle.mt_cuts.specs.Canonical.{IsCanonical}
 use Rattle.mt_cuts.specs.Tree.{value_of}
 use Rattle.mt_cuts.specs.View.{tree_of}
 use Rattle.mt_cuts.specs.declared.cut.Cut.{Cut}
@@ -15,7 +14,7 @@ use Rattle.mt_terms.specs.declared.tree.Tree.{Tree}
 use Rattle.mt_trees.specs.Symbols.{Symbol, term_at}
 use Rattle.mt_trees.specs.Tests.{Found, tested, pattern_tried}
 use Rattle.mt_synth.specs.Cuts.{TreeAt, Means, Grows, tree_numbered}
-use Rattle.mt_synth.specs.Waiting.{waiting_size, AreCanonicalBeside, LeadsTo, IsUnderWay}
+use Rattle.mt_synth.specs.Waiting.{waiting_size, IsWhole, AreWholeBeside, LeadsTo, IsUnderWay}
 use Rattle.mt_synth.specs.declared.patterns.Waiting.{Waiting}
 use Rattle.mt_synth.specs.declared.patterns.Waiting.TheVariants.{Inside, Outside}
 use Rattle.mt_synth.proofs.Meant.{means_values, means_later}
@@ -59,19 +58,19 @@ smaller-inside rest l copy before all one put = let e = ap waiting_size (last_fi
 pub smaller-outside : (rest : Pattern) (l : Bor Pattern) (copy : Cut) (before all : List Waiting) → size_of rest ≡ 1 → all ≡ before ++ Outside l copy ∷ [] → size_of l.now + waiting_size (reverse before) < size_of rest + waiting_size (reverse all)
 smaller-outside rest l copy before all one put = let e = ap waiting_size (last_first before (Outside l copy) all put) in omega (arith, one, e)
 
--- ---- canonical forms
+-- ---- whole trees of cuts
 
-pub canonical-inside : (devices : ℕ) (l : Bor Pattern) (copy : Cut) (before all : List Waiting) → all ≡ before ++ Inside l copy ∷ [] → IsCanonical devices (tree_of copy) → AreCanonicalBeside devices (reverse before) → AreCanonicalBeside devices (reverse all)
-canonical-inside devices l copy before all put here beside = subst (AreCanonicalBeside devices) (sym (last_first before (Inside l copy) all put)) (here, beside)
+pub whole-inside : (devices : ℕ) (l : Bor Pattern) (copy : Cut) (before all : List Waiting) → all ≡ before ++ Inside l copy ∷ [] → IsWhole devices copy → AreWholeBeside devices (reverse before) → AreWholeBeside devices (reverse all)
+whole-inside devices l copy before all put here beside = subst (AreWholeBeside devices) (sym (last_first before (Inside l copy) all put)) (here, beside)
 
-pub canonical-outside : (devices : ℕ) (l : Bor Pattern) (copy : Cut) (before all : List Waiting) → all ≡ before ++ Outside l copy ∷ [] → IsCanonical devices (tree_of copy) → AreCanonicalBeside devices (reverse before) → AreCanonicalBeside devices (reverse all)
-canonical-outside devices l copy before all put here beside = subst (AreCanonicalBeside devices) (sym (last_first before (Outside l copy) all put)) (here, beside)
+pub whole-outside : (devices : ℕ) (l : Bor Pattern) (copy : Cut) (before all : List Waiting) → all ≡ before ++ Outside l copy ∷ [] → IsWhole devices copy → AreWholeBeside devices (reverse before) → AreWholeBeside devices (reverse all)
+whole-outside devices l copy before all put here beside = subst (AreWholeBeside devices) (sym (last_first before (Outside l copy) all put)) (here, beside)
 
-pub taken-inside : (devices : ℕ) (l : Bor Pattern) (copy : Cut) (before all : List Waiting) → all ≡ before ++ Inside l copy ∷ [] → AreCanonicalBeside devices (reverse all) → IsCanonical devices (tree_of copy) × AreCanonicalBeside devices (reverse before)
-taken-inside devices l copy before all put beside = subst (AreCanonicalBeside devices) (last_first before (Inside l copy) all put) beside
+pub taken-inside : (devices : ℕ) (l : Bor Pattern) (copy : Cut) (before all : List Waiting) → all ≡ before ++ Inside l copy ∷ [] → AreWholeBeside devices (reverse all) → IsWhole devices copy × AreWholeBeside devices (reverse before)
+taken-inside devices l copy before all put beside = subst (AreWholeBeside devices) (last_first before (Inside l copy) all put) beside
 
-pub taken-outside : (devices : ℕ) (l : Bor Pattern) (copy : Cut) (before all : List Waiting) → all ≡ before ++ Outside l copy ∷ [] → AreCanonicalBeside devices (reverse all) → IsCanonical devices (tree_of copy) × AreCanonicalBeside devices (reverse before)
-taken-outside devices l copy before all put beside = subst (AreCanonicalBeside devices) (last_first before (Outside l copy) all put) beside
+pub taken-outside : (devices : ℕ) (l : Bor Pattern) (copy : Cut) (before all : List Waiting) → all ≡ before ++ Outside l copy ∷ [] → AreWholeBeside devices (reverse all) → IsWhole devices copy × AreWholeBeside devices (reverse before)
+taken-outside devices l copy before all put beside = subst (AreWholeBeside devices) (last_first before (Outside l copy) all put) beside
 
 -- ---- what it comes to
 
@@ -174,27 +173,27 @@ module _ (devices : ℕ) (symbol : Symbol) (wanted : TreeAt) where
 
 pub record HasMade (devices : ℕ) (symbol : Symbol) (before now : List Tree) (rest : Pattern) (inside outside made : Cut) (ws : List Waiting) : Type 0 where
   pub one : size_of rest ≡ 1
-  pub canonical : IsCanonical devices (tree_of made)
+  pub whole : IsWhole devices made
   pub grows : Grows before now
   pub comes_to : (wanted : TreeAt) → IsUnderWay devices before symbol wanted rest inside outside ws → IsMade devices symbol wanted now made ws
 
-pub has-true : (devices : ℕ) (symbol : Symbol) (before now : List Tree) (rest : Pattern) (inside outside made : Cut) (ws : List Waiting) → rest ≡ True → IsCanonical devices (tree_of inside) → now ≡ before → made ≡ inside
+pub has-true : (devices : ℕ) (symbol : Symbol) (before now : List Tree) (rest : Pattern) (inside outside made : Cut) (ws : List Waiting) → rest ≡ True → IsWhole devices inside → now ≡ before → made ≡ inside
     → HasMade devices symbol before now rest inside outside made ws
-has-true devices symbol before now rest inside outside made ws is canonical same same-made = record {
+has-true devices symbol before now rest inside outside made ws is whole same same-made = record {
   one = one-true rest is;
-  canonical = subst (λ (m : Cut). IsCanonical devices (tree_of m)) (sym same-made) canonical;
+  whole = subst (IsWhole devices) (sym same-made) whole;
   grows = λ number tree found. ap (λ (trees : List Tree). tree_numbered trees number) same ∙ found;
   comes_to = λ wanted way. subst (λ (trees : List Tree). IsMade devices symbol wanted trees made ws) (sym same)
       (subst (λ (m : Cut). IsMade devices symbol wanted before m ws) (sym same-made) (made-true devices symbol wanted before rest inside outside ws is way));
 }
 
 pub has-within : (devices : ℕ) (symbol : Symbol) (before later now : List Tree) (rest : Pattern) (field : Field) (span : Span) (term : TermForm) (inside outside cut made : Cut) (ws : List Waiting) → rest ≡ Within field span → term ≡ term_at symbol field
-    → IsCanonical devices (tree_of cut)
+    → IsWhole devices cut
     → ((f g : TreeAt) → Means devices before (tree_of inside) f → Means devices before (tree_of outside) g → Means devices later (tree_of cut) (λ header. tested header term span (f header) (g header)))
     → Grows before later → now ≡ later → made ≡ cut → HasMade devices symbol before now rest inside outside made ws
-has-within devices symbol before later now rest field span term inside outside cut made ws is term-is canonical means grows same same-made = record {
+has-within devices symbol before later now rest field span term inside outside cut made ws is term-is whole means grows same same-made = record {
   one = one-within rest field span is;
-  canonical = subst (λ (m : Cut). IsCanonical devices (tree_of m)) (sym same-made) canonical;
+  whole = subst (IsWhole devices) (sym same-made) whole;
   grows = λ number tree found. ap (λ (trees : List Tree). tree_numbered trees number) same ∙ grows number tree found;
   comes_to = λ wanted way. subst (λ (trees : List Tree). IsMade devices symbol wanted trees made ws) (sym same)
       (subst (λ (m : Cut). IsMade devices symbol wanted later m ws) (sym same-made) (made-within devices symbol wanted before later rest field span term inside outside cut ws is term-is means grows way));

@@ -11,9 +11,10 @@ use Rattle.mt_kinds.specs.declared.kind.Kind.{Kind}
 use Rattle.mt_terms.specs.declared.tree.Tree.{Tree}
 use Rattle.mt_trees.specs.Elements.{Along, leaves}
 use Rattle.mt_trees.specs.Symbols.{Symbol}
-use Rattle.mt_synth.specs.Cuts.{TreeAt, Means, Grows, AreBehind, AreCanonical}
+use Rattle.mt_synth.specs.Cuts.{Means, Grows, AreBehind, AreCanonical}
 use Rattle.mt_synth.specs.Symbols.{symbol_form}
 use Rattle.mt_synth.specs.declared.exits.Exit.{Exit}
+use Rattle.mt_synth.proofs.Meant.{means_later, grows_on}
 
 -- a place of a list with one element more
 pub place_cases : {A : Type 0} (xs : List A) (x : A) (k : ℕ) (y : A) → slice_get (xs ++ x ∷ []) k ≡ Some y → (slice_get xs k ≡ Some y) ⊎ ((k ≡ length xs) × (x ≡ y))
@@ -24,13 +25,6 @@ place_cases (z ∷ zs) x (suc k) y h = elim (place_cases zs x k y h) [
   | inl before ↦ inl before
   | inr last ↦ inr (ap suc last.0, last.1)
 ]
-
--- what a table means is kept while it grows
-pub means_later : (devices : ℕ) (old new : List Tree) (tree_at : TreeAt) (cut : Cut) → Grows old new → Means devices old (tree_of cut) tree_at → Means devices new (tree_of cut) tree_at
-means_later devices old new tree_at cut grows means = λ header inside tree found. grows _ tree (means header inside tree found)
-
-pub grows_on : (a b c : List Tree) → Grows a b → Grows b c → Grows a c
-grows_on a b c first second = λ number tree is. second number tree (first number tree is)
 
 abbrev pub exit_form : Exit → ℕ × Symbol
 exit_form exit = (exit.out, symbol_form exit.symbol)
@@ -69,7 +63,7 @@ module _ (chain : ChainState) (along : List ℕ → Along) (at : ℕ × ℕ) (ow
         | inr last ↦ subst (λ (c : Cut). IsCanonical chain.entries (tree_of c)) last.1 canonical
       ];
       behind = λ k out other at_exit is. elim (place_cases cuts cut k other is) [
-        | inl before ↦ means_later chain.entries now new _ other grows (walked.behind k out other at_exit before)
+        | inl before ↦ means_later chain.entries now new (tree_of other) _ grows (walked.behind k out other at_exit before)
         | inr last ↦ subst (λ (c : Cut). Means chain.entries new (tree_of c) (λ header. leaves chain header (along header) at own out.1 out.0)) last.1
             (subst (λ (e : ℕ × Symbol). Means chain.entries new (tree_of cut) (λ header. leaves chain header (along header) at own e.1 e.0)) (same_exit out (subst (λ n. slice_get (map exit_form exits) n ≡ Some out) (last.0 ∙ walked.counted) at_exit)) means)
       ];

@@ -1,6 +1,6 @@
 -- One element of a walk.
 use Rattle.std.proofs.Common.{◌≡◌, ◌∙◌, ap, sym, subst, refl, ℕ, zero, suc, ◌-◌, Bool, true, false, cond, List, arith}
-use Rattle.std.specs.Prelude.{Some, None, Ok, Err, IfOk, Result, Option, slice_get, option_and_then}
+use Rattle.std.specs.Prelude.{Some, None, Option, slice_get, option_and_then}
 use Rattle.mt_kinds.specs.Layers.{takes}
 use Rattle.mt_kinds.specs.declared.kind.Kind.{Kind}
 use Rattle.mt_cuts.specs.View.{tree_of}
@@ -11,16 +11,8 @@ use Rattle.mt_terms.specs.Trees.{TreeForm}
 use Rattle.mt_terms.specs.declared.tree.Tree.{Tree}
 use Rattle.mt_trees.specs.Elements.{Along, by_wire, leaves, class_tree, element_tree, tree_from}
 use Rattle.mt_trees.specs.Symbols.{Symbol}
-use Rattle.mt_synth.specs.Cuts.{TreeAt, Means, AreBehind}
+use Rattle.mt_synth.specs.Cuts.{Means, AreBehind}
 use Rattle.mt_synth.specs.Exits.{Exits}
-
-pub if_ok : {A E : Type 0} (r : Result A E) (P Q : A → Type 0) → ((x : A) → P x → Q x) → IfOk r P → IfOk r Q
-if_ok (Ok x) P Q step h = step x h
-if_ok (Err e) P Q step h = h
-
--- a table means the same of trees that are the same for each header
-pub means_same : (devices : ℕ) (trees : List Tree) (cut : Cut) (a b : TreeAt) → ((header : List ℕ) → a header ≡ b header) → Means devices trees (tree_of cut) a → Means devices trees (tree_of cut) b
-means_same devices trees cut a b same means = λ header inside tree found. means header inside tree (same header ∙ found)
 
 module _ (chain : ChainState) (header : List ℕ) (at : ℕ × ℕ) (symbol : Symbol) (tree : TreeForm) where
   pub no_more : (most : ℕ) → most ≡ 0 → tree_from most chain header at symbol ≡ Some tree → ⊥

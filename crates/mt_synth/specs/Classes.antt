@@ -1,24 +1,19 @@
 -- The classes of a chain: the headers of one tree each.
 use Rattle.std.specs.Prelude.{ℕ, ◌≡◌, ◌<◌, ◌==◌, List, map, length, Option, Some, slice_get, option_map}
 use Rattle.std.specs.List.{filter}
-use Rattle.mt_packet.specs.Header.{field_of, fields}
+use Rattle.mt_packet.specs.Header.{field_of}
 use Rattle.mt_packet.specs.declared.field.Field.{Field}
 use Rattle.mt_packet.specs.declared.span.Span.{Span}
 use Rattle.mt_boxes.specs.Boxes.{IsIn}
 use Rattle.mt_boxes.specs.Least.{IsAtMost}
 use Rattle.mt_cuts.specs.Boxes.{AreCanonicalBoxes}
-use Rattle.mt_cuts.specs.Canonical.{InDomain}
+use Rattle.mt_cuts.specs.Headers.{IsHeaderOf}
 use Rattle.mt_cuts.specs.Tree.{value_of, Tree as CutTree}
 use Rattle.mt_cuts.specs.declared.leaves.Leaf.{Leaf}
 use Rattle.mt_terms.specs.Trees.{TreeForm, tree_form}
 use Rattle.mt_terms.specs.declared.tree.Tree.{Tree}
 use Rattle.mt_synth.specs.declared.fault.SynthFault.{SynthFault}
 use Rattle.mt_synth.specs.declared.fault.SynthFault.TheVariants.{TooManyClasses, NoMemory}
-
--- a header of a chain on which frames arrive on so many devices: a number for each field, in its range
-pub record IsHeaderOf (devices : ℕ) (header : List ℕ) : Type 0 where
-  pub whole : length header ≡ length fields
-  pub in_domain : InDomain devices (field_of header)
 
 -- a class: its region, and the tree of its headers
 abbrev pub Class : Type 0
@@ -37,7 +32,9 @@ pub record AreClasses (devices : ℕ) (tree_at : List ℕ → Option TreeForm) (
   -- each header is in a region, whose class has its tree
   pub covers : (header : List ℕ) → IsHeaderOf devices header
       → (number : ℕ) × (region : List (List Span)) × (tree : TreeForm) × IsClass classes number region tree × IsIn region header × (tree_at header ≡ Some tree)
-  -- and in no other
+  -- each class has a header
+  pub had : (number : ℕ) (region : List (List Span)) (tree : TreeForm) → IsClass classes number region tree → (header : List ℕ) × IsHeaderOf devices header × IsIn region header
+  -- no header is in two
   pub once : (header : List ℕ) (i j : ℕ) (r s : List (List Span)) (t u : TreeForm) → IsClass classes i r t → IsClass classes j s u → IsIn r header → IsIn s header → i ≡ j
   -- two classes have different trees
   pub apart : (i j : ℕ) (r s : List (List Span)) (tree : TreeForm) → IsClass classes i r tree → IsClass classes j s tree → i ≡ j

@@ -1,6 +1,6 @@
 -- Patterns that wait while another one is tried, the next one first.
-use Rattle.std.specs.Prelude.{ℕ, ◌≡◌, ◌+◌, List, [], ◌∷◌}
-use Rattle.mt_cuts.specs.Canonical.{IsCanonical}
+use Rattle.std.specs.Prelude.{ℕ, ◌≡◌, ◌+◌, true, List, [], ◌∷◌}
+use Rattle.mt_cuts.specs.Canonical.{IsCanonical, finishes}
 use Rattle.mt_cuts.specs.View.{tree_of}
 use Rattle.mt_cuts.specs.declared.cut.Cut.{Cut}
 use Rattle.mt_pattern.specs.Meaning.{size_of}
@@ -18,11 +18,15 @@ waiting_size [] = 0
 waiting_size (Inside left other ∷ more) = size_of left.now + waiting_size more
 waiting_size (Outside left other ∷ more) = size_of left.now + waiting_size more
 
--- their trees of cuts are in canonical form
-abbrev pub AreCanonicalBeside : ℕ → List Waiting → Type 0
-AreCanonicalBeside devices [] = Unit {0}
-AreCanonicalBeside devices (Inside left other ∷ more) = IsCanonical devices (tree_of other) × AreCanonicalBeside devices more
-AreCanonicalBeside devices (Outside left other ∷ more) = IsCanonical devices (tree_of other) × AreCanonicalBeside devices more
+-- a tree of cuts in canonical form that ends well
+abbrev pub IsWhole : ℕ → Cut → Type 0
+IsWhole devices cut = IsCanonical devices (tree_of cut) × (finishes devices cut ≡ true)
+
+-- their trees of cuts are such trees
+abbrev pub AreWholeBeside : ℕ → List Waiting → Type 0
+AreWholeBeside devices [] = Unit {0}
+AreWholeBeside devices (Inside left other ∷ more) = IsWhole devices other × AreWholeBeside devices more
+AreWholeBeside devices (Outside left other ∷ more) = IsWhole devices other × AreWholeBeside devices more
 
 module _ (devices : ℕ) (trees : List Tree) (symbol : Symbol) where
   -- where the patterns that wait go on with these trees, they come to the wanted ones

@@ -1,6 +1,6 @@
 //! The clauses of a `Classifier` pattern that are tried on a packet under way.
-ghost use Rattle.std.specs.Prelude.{◌≡◌, ℕ, IsTrue, List, IfOk};
-ghost use Rattle.mt_cuts.specs.Canonical.{IsCanonical};
+ghost use Rattle.std.specs.Prelude.{◌≡◌, ℕ, IsTrue, List, IfOk, true};
+ghost use Rattle.mt_cuts.specs.Canonical.{IsCanonical, finishes};
 ghost use Rattle.mt_cuts.specs.View.{tree_of};
 ghost use Rattle.mt_trees.specs.Symbols.{Symbol as SymbolForm};
 ghost use Rattle.mt_trees.specs.Tests.{Found, clauses_tried, field_tested, value_tried};
@@ -44,7 +44,9 @@ fn value_tried(
 ) -> Result<Cut, AllocError>
     requires inside { IsCanonical devices (tree_of inside.now) }
     requires outside { IsCanonical devices (tree_of outside) }
+    requires finished { finishes devices outside ≡ true }
     ensures canonical { IfOk result (λ cut. IsCanonical devices (tree_of cut)) }
+    ensures finishes { IfOk result (λ cut. finishes devices cut ≡ true) }
     ensures means { IfOk result (λ cut. (inside_at outside_at : TreeAt) → Means devices trees.old (tree_of inside.now) inside_at → Means devices trees.old (tree_of outside) outside_at
         → Means devices trees.new (tree_of cut) (λ header. value_tried header (symbol_form symbol.now) clause (inside_at header) (outside_at header))) }
     ensures grows { Grows trees.old trees.new }
@@ -68,6 +70,7 @@ fn clause_tried(
     requires inside { IsCanonical devices (tree_of inside.now) }
     requires outside { IsCanonical devices (tree_of outside.now) }
     ensures canonical { IfOk result (λ cut. IsCanonical devices (tree_of cut)) }
+    ensures finishes { IfOk result (λ cut. finishes devices cut ≡ true) }
     ensures means { IfOk result (λ cut. (inside_at outside_at : TreeAt) → Means devices trees.old (tree_of inside.now) inside_at → Means devices trees.old (tree_of outside.now) outside_at
         → Means devices trees.new (tree_of cut) (λ header. clause_tried header (symbol_form symbol.now) clause (inside_at header) (outside_at header))) }
     ensures grows { Grows trees.old trees.new }
@@ -100,7 +103,9 @@ fn tried(
 ) -> Result<Cut, AllocError>
     requires inside { IsCanonical devices (tree_of inside) }
     requires outside { IsCanonical devices (tree_of outside.now) }
+    requires finished { finishes devices inside ≡ true }
     ensures canonical { IfOk result (λ cut. IsCanonical devices (tree_of cut)) }
+    ensures finishes { IfOk result (λ cut. finishes devices cut ≡ true) }
     ensures means { IfOk result (λ cut. (inside_at outside_at : TreeAt) → Means devices trees.old (tree_of inside) inside_at → Means devices trees.old (tree_of outside.now) outside_at
         → Means devices trees.new (tree_of cut) (λ header. clauses_tried header (symbol_form symbol.now) clauses.now (inside_at header) (outside_at header))) }
     ensures grows { Grows trees.old trees.new }
@@ -162,7 +167,9 @@ pub(crate) fn clauses_tried(
 ) -> Result<Cut, AllocError>
     requires inside { IsCanonical devices (tree_of inside.now) }
     requires outside { IsCanonical devices (tree_of outside) }
+    requires finished { finishes devices outside ≡ true }
     ensures canonical { IfOk result (λ cut. IsCanonical devices (tree_of cut)) }
+    ensures finishes { IfOk result (λ cut. finishes devices cut ≡ true) }
     ensures means { IfOk result (λ cut. (inside_at outside_at : TreeAt) → Means devices trees.old (tree_of inside.now) inside_at → Means devices trees.old (tree_of outside) outside_at
         → Means devices trees.new (tree_of cut) (λ header. clauses_tried header (symbol_form symbol.now) clauses.now (inside_at header) (outside_at header))) }
     ensures grows { Grows trees.old trees.new }

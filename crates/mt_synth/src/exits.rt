@@ -4,7 +4,7 @@ ghost use Rattle.mt_kinds.specs.declared.kind.Kind.{Kind};
 ghost use Rattle.mt_chain.specs.Step.{address_of};
 ghost use Rattle.mt_packet.specs.declared.field.Field.TheVariants.{Paint};
 ghost use Rattle.mt_terms.specs.Terms.{const};
-ghost use Rattle.mt_trees.specs.Symbols.{with_term};
+ghost use Rattle.mt_trees.specs.Symbols.{with_term, annotated, encapsulated, ethernet_swapped, stripped};
 ghost use Rattle.mt_synth.specs.Symbols.{symbol_form};
 ghost use Rattle.mt_synth.specs.Exits.{alone, both, check_exits, counted, exit_forms, exits_of, mirror_exits, route_exits, ttl_exits, with_gateway};
 
@@ -140,6 +140,44 @@ fn mirror_exits(alloc: Global, mut own: Symbol) -> Result<Vec<Exit>, AllocError>
     both(alloc, (0, own), (0, unported))
 }
 
+/// Its Ethernet addresses exchanged.
+fn swapped_exits(alloc: Global, mut own: Symbol) -> Result<Vec<Exit>, AllocError>
+    ensures { IfOk result (λ exits. exit_forms exits.items ≡ alone 0 (ethernet_swapped (symbol_form own))) }
+{
+    own.swap(alloc, Field::EthDst, Field::EthSrc)?;
+    alone(alloc, 0, own)
+}
+
+/// Without its Ethernet header.
+fn stripped_exits(alloc: Global, mut own: Symbol) -> Result<Vec<Exit>, AllocError>
+    ensures { IfOk result (λ exits. exit_forms exits.items ≡ alone 0 (stripped (symbol_form own))) }
+{
+    own.strip();
+    alone(alloc, 0, own)
+}
+
+/// Behind a new Ethernet header.
+fn framed_exits(
+    alloc: Global,
+    mut own: Symbol,
+    ether_type: u16,
+    src: u64,
+    dst: u64,
+) -> Result<Vec<Exit>, AllocError>
+    ensures { IfOk result (λ exits. exit_forms exits.items ≡ alone 0 (encapsulated (symbol_form own) ether_type src dst)) }
+{
+    own.encapsulate(ether_type, src, dst);
+    alone(alloc, 0, own)
+}
+
+/// Its destination as its annotation.
+fn annotated_exits(alloc: Global, mut own: Symbol) -> Result<Vec<Exit>, AllocError>
+    ensures { IfOk result (λ exits. exit_forms exits.items ≡ alone 0 (annotated (symbol_form own))) }
+{
+    own.annotate(alloc)?;
+    alone(alloc, 0, own)
+}
+
 /// The address of an end.
 fn address_of(end: End) -> Field
     ensures { result ≡ address_of end }
@@ -162,35 +200,23 @@ pub(crate) fn exits_of(
     requires there { slice_get chain.now.kinds at.0 ≡ Some kind.now }
     ensures { IfOk result (λ exits. map (λ exit. (exit.out, symbol_form exit.symbol)) exits.items ≡ exits_of chain.now at kind.now (symbol_form symbol.now)) }
 {
-    let mut own = symbol.copy(alloc)?;
+    let own = symbol.copy(alloc)?;
     match kind {
         Kind::FromDevice(_) | Kind::Null | Kind::Counter | Kind::Queue => alone(alloc, 0, own),
         Kind::ToDevice(_) | Kind::Discard | Kind::RoundRobinIPMapper(_) => Ok(Vec::new(alloc)),
         Kind::Paint(paint) => written(alloc, own, Field::Paint, u64::from(*paint)),
         Kind::PaintSwitch => alone(alloc, symbol.paint(), own),
         Kind::Classifier(patterns) => counted(alloc, patterns.count(), symbol),
-        Kind::EtherMirror => {
-            own.swap(alloc, Field::EthDst, Field::EthSrc)?;
-            alone(alloc, 0, own)
-        }
-        Kind::Strip => {
-            own.strip();
-            alone(alloc, 0, own)
-        }
+        Kind::EtherMirror => swapped_exits(alloc, own),
+        Kind::Strip => stripped_exits(alloc, own),
         Kind::CheckIPHeader => check_exits(alloc, symbol, own),
-        Kind::EtherEncap(ether_type, src, dst) => {
-            own.encapsulate(*ether_type, *src, *dst);
-            alone(alloc, 0, own)
-        }
+        Kind::EtherEncap(ether_type, src, dst) => framed_exits(alloc, own, *ether_type, *src, *dst),
         Kind::DecIPTTL => ttl_exits(alloc, symbol, own),
         Kind::SetIPDSCP(point) => written(alloc, own, Field::Dscp, u64::from(*point)),
         Kind::StoreIPAddress(address, which) => {
             written(alloc, own, address_of(*which), u64::from(*address))
         }
-        Kind::GetIPAddress => {
-            own.annotate(alloc)?;
-            alone(alloc, 0, own)
-        }
+        Kind::GetIPAddress => annotated_exits(alloc, own),
         Kind::IPMirror => mirror_exits(alloc, own),
         Kind::IPFilter(_) => counted(alloc, chain.outputs(at.0), symbol),
         Kind::IPClassifier(patterns) => counted(alloc, patterns.as_slice().len() as u32, symbol),

@@ -1,8 +1,8 @@
 //! What an element makes of the trees behind its exits.
-ghost use Rattle.std.specs.Prelude.{◌≡◌, ◌<◌, ℕ, List, length, map, IfOk, Some, slice_get};
+ghost use Rattle.std.specs.Prelude.{◌≡◌, ◌<◌, ℕ, List, length, map, IfOk, Some, slice_get, true};
 ghost use Rattle.mt_packet.specs.declared.cause.Cause.TheVariants.{Short};
 ghost use Rattle.mt_packet.specs.declared.field.Field.{Field};
-ghost use Rattle.mt_cuts.specs.Canonical.{IsCanonical};
+ghost use Rattle.mt_cuts.specs.Canonical.{IsCanonical, finishes};
 ghost use Rattle.mt_cuts.specs.Tree.{value_of};
 ghost use Rattle.mt_cuts.specs.View.{tree_of};
 ghost use Rattle.mt_cuts.specs.declared.cut.Cut.{Cut};
@@ -34,6 +34,7 @@ use std::alloc::{AllocError, Global};
 fn at_place(alloc: Global, devices: u32, cuts: &[Cut], place: usize) -> Result<Cut, AllocError>
     requires { AreCanonical devices cuts.now }
     ensures canonical { IfOk result (λ copy. IsCanonical devices (tree_of copy)) }
+    ensures finishes { IfOk result (λ copy. finishes devices copy ≡ true) }
     ensures value { IfOk result (λ copy. (cut : Cut) → slice_get cuts.now place ≡ Some cut
         → (header : Field → ℕ) → value_of (tree_of copy) header ≡ value_of (tree_of cut) header) }
 {
@@ -111,6 +112,7 @@ fn ported(
     requires count { length cuts.now ≡ length exits.now }
     requires cuts { AreCanonical devices cuts.now }
     requires unported { IsCanonical devices (tree_of unported) }
+    requires finished { finishes devices unported ≡ true }
     ensures canonical { IfOk result (λ cut. IsCanonical devices (tree_of cut)) }
     ensures means { IfOk result (λ cut. (chain : ChainState) (along : List ℕ → Along) (own : Kind) (specs : List Spec) (spec : Spec) (unported_at : TreeAt)
         → map (λ exit. (exit.out, symbol_form exit.symbol)) exits.now ≡ taken_exits chain at specs spec (symbol_form symbol.now)

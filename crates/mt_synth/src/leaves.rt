@@ -1,6 +1,6 @@
 //! The ends of ways.
-ghost use Rattle.std.specs.Prelude.{◌≡◌, ℕ, IfOk, Some};
-ghost use Rattle.mt_cuts.specs.Canonical.{IsCanonical};
+ghost use Rattle.std.specs.Prelude.{◌≡◌, ℕ, IfOk, Some, true};
+ghost use Rattle.mt_cuts.specs.Canonical.{IsCanonical, finishes};
 ghost use Rattle.mt_cuts.specs.View.{tree_of};
 ghost use Rattle.mt_terms.specs.Terms.{term_form};
 ghost use Rattle.mt_terms.specs.Trees.{leaf, rewrite_form};
@@ -18,6 +18,7 @@ use std::alloc::{AllocError, Global};
 /// A packet that is dropped.
 pub(crate) fn dropped(alloc: Global, trees: &mut Trees, cause: Cause) -> Result<Cut, AllocError>
     ensures canonical { IfOk result (λ cut. (devices : ℕ) → IsCanonical devices (tree_of cut)) }
+    ensures finishes { IfOk result (λ cut. (devices : ℕ) → finishes devices cut ≡ true) }
     ensures means { IfOk result (λ cut. (devices : ℕ) → Means devices trees.new (tree_of cut) (λ header. dropped cause)) }
     ensures grows { Grows trees.old trees.new }
 {

@@ -13,6 +13,7 @@ mod fault;
 mod joined;
 mod leaves;
 mod lists;
+mod memo;
 mod numbering;
 mod passages;
 mod patterns;

@@ -1,6 +1,6 @@
 //! Patterns that are tried on a packet under way.
 ghost use Rattle.std.specs.Prelude.{◌≡◌, ℕ, true, IfOk};
-ghost use Rattle.mt_cuts.specs.Canonical.{IsCanonical};
+ghost use Rattle.mt_cuts.specs.Canonical.{IsCanonical, finishes};
 ghost use Rattle.mt_cuts.specs.View.{tree_of};
 ghost use Rattle.mt_trees.specs.Tests.{pattern_tried};
 ghost use Rattle.mt_synth.specs.Symbols.{symbol_form};
@@ -33,6 +33,7 @@ enum Waiting<'a> {
 pub(crate) fn copied(alloc: Global, devices: u32, cut: &Cut) -> Result<Cut, AllocError>
     requires { IsCanonical devices (tree_of cut.now) }
     ensures canonical { IfOk result (λ copy. IsCanonical devices (tree_of copy)) }
+    ensures finishes { IfOk result (λ copy. finishes devices copy ≡ true) }
     ensures value { IfOk result (λ copy. (header : Field → ℕ) → value_of (tree_of copy) header ≡ value_of (tree_of cut.now) header) }
 {
     select(alloc, devices, &Cut::leaf(1), cut, Cut::leaf(0))
@@ -51,7 +52,10 @@ fn tried(
 ) -> Result<Cut, AllocError>
     requires inside { IsCanonical devices (tree_of inside) }
     requires outside { IsCanonical devices (tree_of outside) }
+    requires first { finishes devices inside ≡ true }
+    requires second { finishes devices outside ≡ true }
     ensures canonical { IfOk result (λ cut. IsCanonical devices (tree_of cut)) }
+    ensures finishes { IfOk result (λ cut. finishes devices cut ≡ true) }
     ensures means { IfOk result (λ cut. (inside_at outside_at : TreeAt) → Means devices trees.old (tree_of inside) inside_at → Means devices trees.old (tree_of outside) outside_at
         → Means devices trees.new (tree_of cut) (λ header. pattern_tried header (symbol_form symbol.now) pattern.now (inside_at header) (outside_at header))) }
     ensures grows { Grows trees.old trees.new }
@@ -63,9 +67,7 @@ fn tried(
     loop {
         let made = match rest {
             Pattern::Not(inner) => {
-                let other = inside;
-                inside = outside;
-                outside = other;
+                (inside, outside) = (outside, inside);
                 rest = inner.get();
                 continue;
             }
@@ -80,28 +82,15 @@ fn tried(
                 continue;
             }
             Pattern::True => inside,
-            Pattern::Within(field, span) => tested(
-                alloc,
-                devices,
-                trees,
-                symbol.term(*field),
-                *span,
-                &inside,
-                outside,
-            )?,
+            Pattern::Within(field, span) => {
+                let term = symbol.term(*field);
+                tested(alloc, devices, trees, term, *span, &inside, outside)?
+            }
         };
         match waiting.pop() {
             None => return Ok(made),
-            Some(Waiting::Inside(left, other)) => {
-                rest = left;
-                inside = made;
-                outside = other;
-            }
-            Some(Waiting::Outside(left, other)) => {
-                rest = left;
-                inside = other;
-                outside = made;
-            }
+            Some(Waiting::Inside(left, other)) => (rest, inside, outside) = (left, made, other),
+            Some(Waiting::Outside(left, other)) => (rest, inside, outside) = (left, other, made),
         }
     }
 }
@@ -172,7 +161,9 @@ pub(crate) fn pattern_tried(
 ) -> Result<Cut, AllocError>
     requires inside { IsCanonical devices (tree_of inside.now) }
     requires outside { IsCanonical devices (tree_of outside) }
+    requires finished { finishes devices outside ≡ true }
     ensures canonical { IfOk result (λ cut. IsCanonical devices (tree_of cut)) }
+    ensures finishes { IfOk result (λ cut. finishes devices cut ≡ true) }
     ensures means { IfOk result (λ cut. (inside_at outside_at : TreeAt) → Means devices trees.old (tree_of inside.now) inside_at → Means devices trees.old (tree_of outside) outside_at
         → Means devices trees.new (tree_of cut) (λ header. pattern_tried header (symbol_form symbol.now) pattern.now (inside_at header) (outside_at header))) }
     ensures grows { Grows trees.old trees.new }

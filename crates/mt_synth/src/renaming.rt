@@ -1,7 +1,7 @@
 //! Other numbers for the values of a tree of cuts.
-ghost use Rattle.std.specs.Prelude.{◌≡◌, get_or, if◌then◌else◌, Bool, List, IfOk, Some, ℕ};
+ghost use Rattle.std.specs.Prelude.{◌≡◌, get_or, if◌then◌else◌, Bool, List, IfOk, Some, ℕ, true};
 ghost use Rattle.mt_packet.specs.declared.field.Field.{Field};
-ghost use Rattle.mt_cuts.specs.Canonical.{IsCanonical};
+ghost use Rattle.mt_cuts.specs.Canonical.{IsCanonical, finishes};
 ghost use Rattle.mt_cuts.specs.View.{tree_of};
 ghost use Rattle.mt_cuts.specs.Tree.{value_of};
 ghost use Rattle.mt_terms.specs.Trees.{TreeForm};
@@ -39,6 +39,7 @@ pub(crate) fn renamed(
 ) -> Result<Cut, AllocError>
     requires { IsCanonical devices (tree_of cut.now) }
     ensures canonical { IfOk result (λ renamed. IsCanonical devices (tree_of renamed)) }
+    ensures finishes { IfOk result (λ renamed. finishes devices renamed ≡ true) }
     ensures value { IfOk result (λ renamed. (header : Field → ℕ) → value_of (tree_of renamed) header ≡ get_or names.now (value_of (tree_of cut.now) header) 0) }
 {
     merge(alloc, devices, cut, &Cut::leaf(0), &Named { names })

@@ -52,8 +52,9 @@ impl Symbol {
         })
     }
 
-    pub fn copy(&self, alloc: Global) -> Result<Symbol, AllocError>
-        ensures { IfOk result (λ copy. symbol_form copy ≡ symbol_form self.now) }
+    /// A copy of the terms.
+    pub fn terms(&self, alloc: Global) -> Result<Vec<Term>, AllocError>
+        ensures { IfOk result (λ terms. map term_form terms.items ≡ (symbol_form self.now).terms) }
     {
         let mut terms = Vec::with_capacity(alloc, HEADER_FIELDS)?;
         let mut rest = self.terms.as_slice();
@@ -61,8 +62,14 @@ impl Symbol {
             terms.push(term.copy(alloc)?)?;
             rest = after;
         }
+        Ok(terms)
+    }
+
+    pub fn copy(&self, alloc: Global) -> Result<Symbol, AllocError>
+        ensures { IfOk result (λ copy. symbol_form copy ≡ symbol_form self.now) }
+    {
         Ok(Symbol {
-            terms,
+            terms: self.terms(alloc)?,
             layer: self.layer,
             trim: self.trim,
             passages: self.passages,

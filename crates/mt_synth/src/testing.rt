@@ -1,6 +1,6 @@
 //! Tests of terms.
-ghost use Rattle.std.specs.Prelude.{◌≡◌, ℕ, IfOk, Some, get_or, option_map, slice_get};
-ghost use Rattle.mt_cuts.specs.Canonical.{IsCanonical};
+ghost use Rattle.std.specs.Prelude.{◌≡◌, ℕ, IfOk, Some, get_or, option_map, slice_get, true};
+ghost use Rattle.mt_cuts.specs.Canonical.{IsCanonical, finishes};
 ghost use Rattle.mt_cuts.specs.View.{tree_of};
 ghost use Rattle.mt_terms.specs.Terms.{term_form};
 ghost use Rattle.mt_terms.specs.Trees.{tree_form};
@@ -84,6 +84,7 @@ fn kept(
     requires inside { IsCanonical devices (tree_of inside.now) }
     requires outside { IsCanonical devices (tree_of outside.now) }
     ensures canonical { IfOk result (λ cut. IsCanonical devices (tree_of cut)) }
+    ensures finishes { IfOk result (λ cut. finishes devices cut ≡ true) }
     ensures means { IfOk result (λ cut. (inside_at outside_at : TreeAt) → Means devices trees.old (tree_of inside.now) inside_at → Means devices trees.old (tree_of outside.now) outside_at
         → Means devices trees.new (tree_of cut) (λ header. kept (term_form term.now) span (inside_at header) (outside_at header))) }
     ensures grows { Grows trees.old trees.new }
@@ -105,7 +106,9 @@ pub(crate) fn tested(
 ) -> Result<Cut, AllocError>
     requires inside { IsCanonical devices (tree_of inside.now) }
     requires outside { IsCanonical devices (tree_of outside) }
+    requires finished { finishes devices outside ≡ true }
     ensures canonical { IfOk result (λ cut. IsCanonical devices (tree_of cut)) }
+    ensures finishes { IfOk result (λ cut. finishes devices cut ≡ true) }
     ensures means { IfOk result (λ cut. (inside_at outside_at : TreeAt) → Means devices trees.old (tree_of inside.now) inside_at → Means devices trees.old (tree_of outside) outside_at
         → Means devices trees.new (tree_of cut) (λ header. tested header (term_form term.now) span (inside_at header) (outside_at header))) }
     ensures grows { Grows trees.old trees.new }
@@ -130,7 +133,9 @@ pub(crate) fn field_tested(
 ) -> Result<Cut, AllocError>
     requires inside { IsCanonical devices (tree_of inside.now) }
     requires outside { IsCanonical devices (tree_of outside) }
+    requires finished { finishes devices outside ≡ true }
     ensures canonical { IfOk result (λ cut. IsCanonical devices (tree_of cut)) }
+    ensures finishes { IfOk result (λ cut. finishes devices cut ≡ true) }
     ensures means { IfOk result (λ cut. (inside_at outside_at : TreeAt) → Means devices trees.old (tree_of inside.now) inside_at → Means devices trees.old (tree_of outside) outside_at
         → Means devices trees.new (tree_of cut) (λ header. field_tested header (symbol_form symbol.now) field lo hi (inside_at header) (outside_at header))) }
     ensures grows { Grows trees.old trees.new }

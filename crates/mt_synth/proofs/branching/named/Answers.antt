@@ -9,7 +9,7 @@ use Rattle.mt_synth.specs.Branches.{branches_named}
 use Rattle.mt_synth.specs.Cuts.{tree_numbered}
 use Rattle.mt_synth.specs.Symbols.{symbol_form}
 use Rattle.mt_synth.proofs.BranchesNamed.{one_name_more}
-use Rattle.mt_synth.proofs.MeansKept.{grows_on}
+use Rattle.mt_synth.proofs.Meant.{grows_on}
 use Rattle.mt_synth.proofs.branching.named.Goals as goal
 
 pub loop-place-preserved : goal.loop-place-preserved

@@ -8,9 +8,10 @@ use Rattle.mt_cuts.specs.View.{tree_of as cut_of}
 use Rattle.mt_chain.specs.Run.{IsThere}
 use Rattle.mt_terms.specs.declared.tree.Tree.{Tree}
 use Rattle.mt_trees.specs.Elements.{tree_of}
-use Rattle.mt_synth.specs.Classes.{IsHeaderOf, AreClasses, IsFaultOf, class_form, tree_at}
+use Rattle.mt_cuts.specs.Headers.{IsHeaderOf}
+use Rattle.mt_synth.specs.Classes.{AreClasses, IsFaultOf, class_form, tree_at}
 use Rattle.mt_synth.proofs.Synthesised.{classes_same, fault_same, same_trees, all_numbered, one_number}
-use Rattle.mt_synth.proofs.Ways.{if_ok}
+use Rattle.std.proofs.lemmas.Result.{IfOk-weaker}
 use Rattle.mt_synth.specs.Cuts.{AreApart}
 use Rattle.mt_synth.proofs.classes.synthesise.Goals as goal
 
@@ -35,7 +36,7 @@ returns-clause-classes c =
     λ header within. c.headers_have_trees.ensures c.args.chain.now c.is_accepted.ensures.accepted c.is_accepted.ensures.numbered header (within.from_least Device) (within.to_last Device) in
     let same : (header : List ℕ) → IsHeaderOf c.args.chain.now.entries header → tree_at (cut_of c.in_ok-cut.cut) c.walked.new.trees header ≡ tree_of c.args.chain.now header =
     same_trees c.args.chain.now.entries c.walked.new.trees (cut_of c.in_ok-cut.cut) (tree_of c.args.chain.now) c.in_ok-cut.ensures.means have in
-    if_ok c.classes_of.result _ _
+    IfOk-weaker c.classes_of.result _ _
     (λ classes are. classes_same c.args.chain.now.entries (tree_at (cut_of c.in_ok-cut.cut) c.walked.new.trees) (tree_of c.args.chain.now) same (map class_form classes)
     (subst (λ (ts : List Tree). AreClasses c.args.chain.now.entries (tree_at (cut_of c.in_ok-cut.cut) ts) (map class_form classes)) c.as_slice.ensures.trees
     (subst (λ n. AreClasses n (tree_at (cut_of c.in_ok-cut.cut) c.as_slice.result.now) (map class_form classes)) c.entries.ensures are)))

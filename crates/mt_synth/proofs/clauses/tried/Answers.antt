@@ -11,6 +11,7 @@ loop-rest-preserved c = record {
   within = grind (arith, common_steps);
   grows = grows_on c.args.trees.now c.loop-rest.trees c.clause_tried.new.trees c.loop-rest.invariant.grows c.clause_tried.ensures.grows;
   canonical = c.in_ok-made.ensures.canonical;
+  finished = c.in_ok-made.ensures.finishes;
   so_far = λ f g first second. one_less c.args.devices (symbol_form c.args.symbol.now) c.args.clauses.now f g c.args.trees.now c.loop-rest.trees c.clause_tried.new.trees c.loop-rest.rest.now
       (take (length c.loop-rest.rest.now - 1) c.loop-rest.rest.now) _ (tree_of c.args.outside.now) (tree_of c.loop-rest.made) (tree_of c.in_ok-made.made)
       (split_last c.loop-rest.rest.now _ c.in-len1-up.len_at_least) c.loop-rest.invariant.grows second c.in_ok-made.ensures.means (c.loop-rest.invariant.so_far f g first second);

@@ -4,7 +4,7 @@ use Rattle.std.proofs.lemmas.Result.{IfOk-weaker}
 use Rattle.mt_cuts.specs.View.{tree_of}
 use Rattle.mt_synth.specs.Symbols.{symbol_form}
 use Rattle.mt_synth.specs.declared.exits.Exit.{Exit}
-use Rattle.mt_synth.proofs.MeansKept.{grows_on}
+use Rattle.mt_synth.proofs.Meant.{grows_on}
 use Rattle.mt_synth.proofs.RewriterParts.{mapped_behind, drops_stand, pass_stands}
 use Rattle.mt_synth.proofs.joined.rewritten.Goals as goal
 
@@ -20,6 +20,14 @@ returns-in-Pass-clause-means c =
     (ap (map (λ (exit : Exit). (exit.out, symbol_form exit.symbol))) (take_rest c.args.exits.now 1) ∙ mapped_behind (λ (exit : Exit). (exit.out, symbol_form exit.symbol)) c.args.exits.now)
     (take_rest c.args.cuts.now 1) c.in_ok-unported.ensures.value means)
     c.ported.ensures.means
+
+pub ported-requires-2 : goal.ported-requires-2
+ported-requires-2 c = record {
+  count = c.requires.count;
+  cuts = c.requires.cuts;
+  unported = c.in_ok-unported-2.ensures.canonical c.args.devices;
+  finished = c.in_ok-unported-2.ensures.finishes c.args.devices;
+}
 
 pub returns : goal.returns
 returns c = record {

@@ -6,8 +6,11 @@ use Rattle.mt_cuts.specs.View.{tree_of}
 use Rattle.mt_cuts.specs.declared.cut.Cut.{Cut}
 use Rattle.mt_trees.specs.Elements.{dropped}
 use Rattle.mt_synth.specs.Cuts.{Means}
-use Rattle.mt_synth.proofs.MeansKept.{means_grow}
+use Rattle.mt_synth.proofs.Meant.{means_later}
 use Rattle.mt_synth.proofs.joined.whole.Goals as goal
+
+pub field_tested-requires-clause-finished : goal.field_tested-requires-clause-finished
+field_tested-requires-clause-finished c = c.in_ok-short.ensures.finishes c.args.devices
 
 pub returns-clause-means : goal.returns-clause-means
 returns-clause-means c =
@@ -15,7 +18,7 @@ returns-clause-means c =
     IfOk-weaker c.field_tested.result _ _
     (λ cut means inside inside_at is_inside inside_means.
     means inside_at (λ header. dropped Short)
-    (means_grow c.args.devices c.args.trees.now c.dropped.new.trees (tree_of c.index-cuts-0.result) inside_at c.dropped.ensures.grows
+    (means_later c.args.devices c.args.trees.now c.dropped.new.trees (tree_of c.index-cuts-0.result) inside_at c.dropped.ensures.grows
     (subst (λ (one : Cut). Means c.args.devices c.args.trees.now (tree_of one) inside_at) (sym (same_Some c.index-cuts-0.result inside (sym first ∙ is_inside))) inside_means))
     (c.in_ok-short.ensures.means c.args.devices))
     c.field_tested.ensures.means
