@@ -14,6 +14,7 @@ pub mod Marks
 pub mod Meant
 pub mod Numbered
 pub mod Outputs
+pub mod Partitioned
 pub mod PatternSizes
 pub mod PatternsDecided
 pub mod PatternsTried

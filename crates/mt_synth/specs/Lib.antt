@@ -6,6 +6,7 @@ pub mod Cuts
 pub mod Decided
 pub mod Entries
 pub mod Exits
+pub mod Laws
 pub mod Memo
 pub mod Numbering
 pub mod Symbols

@@ -11,6 +11,7 @@ mod conditions;
 mod exits;
 mod fault;
 mod joined;
+pub mod laws;
 mod leaves;
 mod lists;
 mod memo;
