@@ -1,0 +1,13 @@
+pub mod Attempts
+pub mod Branches
+pub mod ClassFound
+pub mod Decided
+pub mod Ends
+pub mod Entries
+pub mod Leads
+pub mod Rounds
+pub mod Sources
+pub mod StepsTaken
+pub mod Undone
+pub mod Walked
+pub mod Whole
