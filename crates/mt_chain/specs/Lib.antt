@@ -2,6 +2,7 @@ pub mod Classifier
 pub mod Fates
 pub mod Filter
 pub mod Kept
+pub mod Known
 pub mod Laws
 pub mod Order
 pub mod Rewriting
