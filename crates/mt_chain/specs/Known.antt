@@ -7,6 +7,7 @@ use Rattle.mt_elements.specs.ChainState.{ChainState}
 use Rattle.mt_elements.specs.Numbered.{IsNumbered}
 use Rattle.mt_rewriter.specs.Kept.{AreTables}
 use Rattle.mt_rewriter.specs.Mappings.{TablesState}
+use Rattle.mt_chain.specs.Kept.{ComesFrom}
 use Rattle.mt_chain.specs.Run.{IsThere, Run, run_answer}
 
 -- a packet that arrives on a device of an accepted chain has a run, or a pick that is missing or not free
@@ -19,3 +20,8 @@ RunsAreThere =
 abbrev pub RunsKeepTables : Type 0
 RunsKeepTables =
     (chain : ChainState) (tables : TablesState) → AreTables chain tables → (packet : PacketState) (picks : List ℕ) (run : Run) → run_answer chain tables packet picks ≡ Some (Ok run) → AreTables chain run.tables
+
+-- what a run sends has its packet's time, device and number of arrival, and has no more bytes
+abbrev pub FatesComeFrom : Type 0
+FatesComeFrom =
+    (chain : ChainState) (tables : TablesState) → AreTables chain tables → (packet : PacketState) (picks : List ℕ) (run : Run) → run_answer chain tables packet picks ≡ Some (Ok run) → ComesFrom packet run.fate

@@ -3,7 +3,7 @@
 ghost use Rattle.std.specs.Prelude.{ℕ, ◌<◌, ◌≤◌};
 ghost use Rattle.mt_elements.specs.ChainState.{ChainState, entry_of};
 ghost use Rattle.mt_elements.specs.Numbered.{IsNumbered};
-ghost use Rattle.mt_chain.specs.Known.{RunsAreThere, RunsKeepTables};
+ghost use Rattle.mt_chain.specs.Known.{FatesComeFrom, RunsAreThere, RunsKeepTables};
 ghost use Rattle.mt_chain.specs.Run.{IsThere};
 ghost use Rattle.mt_chain.specs.Sequence.{OneBehind};
 
@@ -35,6 +35,14 @@ pub fn runs_are_there()
 /// What a run leaves is tables of its chain.
 pub fn runs_keep_tables()
     ensures { RunsKeepTables }
+{
+    decisions_keep_tables();
+    mappings_stay();
+}
+
+/// What a run sends has its packet's time, device and number of arrival, and has no more bytes.
+pub fn fates_come_from_packets()
+    ensures { FatesComeFrom }
 {
     decisions_keep_tables();
     mappings_stay();
