@@ -6,6 +6,7 @@ pub mod ClassesMade
 pub mod ClausesDecided
 pub mod ClausesUnderWay
 pub mod Collected
+pub mod Counted
 pub mod Devices
 pub mod LastToFirst
 pub mod LeafBoxes
