@@ -1,6 +1,6 @@
 -- The branch of an output, and a passage that is decided.
-use Rattle.std.proofs.Common.{◌≡◌, ◌∙◌, sym, ap, subst, refl, ℕ, ◌+◌, ◌≤◌, Bool, true, false, List, arith}
-use Rattle.std.specs.Prelude.{◌==◌, if◌then◌else◌, Option, Some, None, Result, Ok, slice_get, option_and_then}
+use Rattle.std.proofs.Common.{◌≡◌, ◌∙◌, ap, subst, refl, ℕ, ◌+◌, ◌≤◌, Bool, true, false, List, arith}
+use Rattle.std.specs.Prelude.{◌==◌, if◌then◌else◌, Option, Some, None, Ok, slice_get, option_and_then}
 use Rattle.std.proofs.lemmas.Option.{none-some, same_Some}
 use Rattle.mt_packet.specs.Packet.{PacketState}
 use Rattle.mt_kinds.specs.declared.rewriter.Spec.{Spec}
@@ -8,7 +8,7 @@ use Rattle.mt_rewriter.specs.Passages.{decide_for}
 use Rattle.mt_rewriter.specs.declared.passage.Decision.{Decision}
 use Rattle.mt_rewriter.specs.declared.passage.Passage.{Passage}
 use Rattle.mt_rewriter.specs.declared.passage.Passage.TheVariants as passage
-use Rattle.mt_chain.specs.Run.{Answer, IsThere}
+use Rattle.mt_chain.specs.Run.{IsThere}
 use Rattle.mt_terms.specs.Trees.{TreeForm, BranchForms, OpForm, none, branch}
 use Rattle.mt_terms.specs.Trees.{passage as op}
 use Rattle.mt_trees.specs.Meaning.{RewritersState, Under, CanServe, CanServeAmong, OfSide, ServesDecision, ServesElement, ServesInput, ServesPassage, at_input, by_decision, by_passage, flow_at, meaning_of, meaning_among}

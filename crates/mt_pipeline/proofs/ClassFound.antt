@@ -1,6 +1,6 @@
 -- The class of a header of a chain, by the index.
 use Rattle.std.proofs.Common.{◌≡◌, ◌∙◌, sym, ap, subst, refl, ℕ, zero, suc, ◌<◌, ◌≤◌, List, [], ◌∷◌, length, map, arith}
-use Rattle.std.specs.Prelude.{◌⊎◌, Option, Some, None, slice_get, slice_index_or, option_map}
+use Rattle.std.specs.Prelude.{Option, Some, None, slice_get, slice_index_or, option_map}
 use Rattle.std.proofs.Common.{inl, inr}
 use Rattle.std.proofs.lemmas.Option.{none-some, same_Some, slice_get-map, slice_get_within}
 use Rattle.mt_packet.specs.Header.{InRanges, field_of}

@@ -1,12 +1,11 @@
 -- What a tree means is what the place means that it leads to.
-use Rattle.std.proofs.Common.{◌≡◌, ◌∙◌, sym, ap, refl, ℕ, Bool, true, false, List}
+use Rattle.std.proofs.Common.{◌≡◌, ◌∙◌, sym, refl, ℕ, Bool, true, false, List}
 use Rattle.std.specs.Prelude.{◌==◌, if◌then◌else◌, Option, Some, None, Result, Ok, Err, slice_get, option_and_then}
 use Rattle.std.proofs.lemmas.Option.{none-some}
 use Rattle.mt_packet.specs.Packet.{PacketState}
 use Rattle.mt_packet.specs.declared.flow.Flow.{Flow}
 use Rattle.mt_pattern.specs.Meaning.{contains_number}
 use Rattle.mt_kinds.specs.declared.rewriter.Spec.{Spec}
-use Rattle.mt_rewriter.specs.Passages.{decide_for}
 use Rattle.mt_rewriter.specs.declared.passage.Decision.{Decision}
 use Rattle.mt_rewriter.specs.declared.passage.Passage.{Passage}
 use Rattle.mt_rewriter.specs.declared.passage.Passage.TheVariants as passage

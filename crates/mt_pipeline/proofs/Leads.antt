@@ -1,6 +1,6 @@
 -- Where one step of a walk leads.
-use Rattle.std.proofs.Common.{◌≡◌, ◌∙◌, sym, ap, subst, refl, ℕ, suc, ◌+◌, ◌<◌, ◌≤◌, Bool, true, false, List, [], ◌∷◌, ◌++◌, length, map, arith, append_assoc}
-use Rattle.std.specs.Prelude.{if◌then◌else◌, Option, Some, None, Ok}
+use Rattle.std.proofs.Common.{◌≡◌, ◌∙◌, sym, ap, subst, refl, ℕ, ◌+◌, ◌<◌, ◌≤◌, Bool, true, false, List, [], ◌∷◌, ◌++◌, length, map, arith, append_assoc}
+use Rattle.std.specs.Prelude.{if◌then◌else◌, Some, Ok}
 use Rattle.std.specs.Global.{Vec, Box}
 use Rattle.mt_packet.specs.Packet.{PacketState}
 use Rattle.mt_packet.specs.declared.cause.Cause.{Cause}

@@ -1,13 +1,17 @@
 pub mod Attempts
+pub mod Begun
 pub mod Branches
 pub mod ClassFound
 pub mod Decided
 pub mod Ends
 pub mod Entries
+pub mod Few
 pub mod Leads
 pub mod Rounds
 pub mod Sources
 pub mod StepsTaken
+pub mod Tried
+pub mod Turned
 pub mod Undone
 pub mod Walked
 pub mod Whole

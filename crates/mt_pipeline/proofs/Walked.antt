@@ -3,8 +3,7 @@ use Rattle.std.proofs.Common.{◌≡◌, ◌∙◌, sym, ap, subst, refl, ℕ, L
 use Rattle.mt_trees.specs.Meaning.{RewritersState, Under, CanServe, meaning_of}
 use Rattle.mt_terms.specs.Trees.{TreeForm}
 use Rattle.mt_chain.specs.Run.{IsThere}
-use Rattle.mt_packet.specs.Packet.{PacketState}
-use Rattle.mt_pipeline.proofs.Ends.{tree_ends, there_reached}
+use Rattle.mt_pipeline.proofs.Ends.{tree_ends}
 use Rattle.mt_pipeline.specs.Reached.{meant_at, reached}
 use Rattle.mt_pipeline.specs.Passing.{IsReady, IsStep}
 use Rattle.mt_pipeline.specs.Walking.{CanWalk, EndsIn, EndsWalk, LeadsTo, known, state_of}

@@ -1,7 +1,9 @@
 pub mod Contexts
+pub mod Opened
 pub mod Passing
 pub mod Reached
-pub mod Servers
+pub mod Serving
 pub mod Standing
 pub mod Trying
+pub mod Turns
 pub mod Walking

@@ -1,11 +1,11 @@
 //! What serving needs of a chain.
-ghost use Rattle.std.specs.Prelude.{◌≡◌, ◌<◌, ◌≤◌, Some, IfOk, IfErr, length, slice_get};
+ghost use Rattle.std.specs.Prelude.{◌≡◌, ◌<◌, ◌≤◌, Some, IfOk, length, map, slice_get};
 ghost use Rattle.mt_packet.specs.Header.{field_of};
 ghost use Rattle.mt_packet.specs.declared.field.Field.TheVariants as of;
 ghost use Rattle.mt_elements.specs.ChainState.{ChainState};
 ghost use Rattle.mt_terms.specs.Trees.{tree_form};
 ghost use Rattle.mt_trees.specs.Elements.{tree_of};
-ghost use Rattle.mt_synth.specs.Classes.{IsFaultOf};
+ghost use Rattle.mt_synth.specs.Classes.{AreClasses, class_form};
 ghost use Rattle.mt_pipeline.specs.Contexts.{IsContextOf};
 
 use mt_boxes::Region;
@@ -14,9 +14,8 @@ use mt_elements::{Chain, Rewriters};
 use mt_ledger::Policy;
 use mt_packet::Header;
 use mt_synth::laws::classes_are_a_partition;
-use mt_synth::{SynthFault, synthesise};
 use mt_terms::{Classes, Tree};
-use std::alloc::Global;
+use std::alloc::{AllocError, Global};
 
 /// What serving needs of a chain: its rewriters, its classes and their index, all made of that one chain, and the policy
 /// by which ports are picked. It has no wires.
@@ -45,16 +44,21 @@ fn class_at(list: &[(Region, Tree)], class: u32) -> &(Region, Tree)
 }
 
 impl Context {
-    /// What serving needs of a chain, by this policy. Errors: those of `synthesise`.
-    pub fn of(alloc: Global, chain: Chain, policy: Policy) -> Result<Context, SynthFault>
+    /// What serving needs of a chain, by this policy, with its classes.
+    pub fn of(
+        alloc: Global,
+        chain: Chain,
+        classes: Classes,
+        policy: Policy,
+    ) -> Result<Context, AllocError>
+        requires classes { AreClasses chain.entries (tree_of chain) (map class_form classes) }
+        requires few { length classes < 65536 }
         ensures made { IfOk result (λ context. IsContextOf chain context.rewriters context.classes context.index) }
         ensures policy { IfOk result (λ context. context.policy ≡ policy) }
-        ensures many { IfErr result (IsFaultOf chain.entries (tree_of chain)) }
     {
         chain.is_accepted();
         chain.devices();
         classes_are_a_partition();
-        let classes = synthesise(alloc, &chain)?;
         let index = Index::build(alloc, &classes)?;
         Ok(Context {
             rewriters: chain.into_rewriters(),

@@ -6,15 +6,19 @@
 
 mod context;
 mod journal;
+mod opening;
 mod passage;
 mod ports;
 mod resources;
 mod ring;
 mod server;
+mod service;
+mod serving;
 mod steps;
 mod taking_back;
 mod tries;
 mod walk;
 
 pub use context::Context;
-pub use server::{Queued, Server};
+pub use server::{QUEUE, Queued, Server, Turn};
+pub use service::Service;

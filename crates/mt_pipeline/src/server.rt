@@ -1,12 +1,20 @@
 //! A server.
-ghost use Rattle.std.specs.Prelude.{◌≡◌, ◌<◌, ◌≤◌, ◌++◌, ◌∷◌, [], length, IfOk};
+ghost use Rattle.std.specs.Prelude.{◌≡◌, ◌+◌, ◌<◌, ◌≤◌, ◌^◌, ◌++◌, ◌∷◌, ◌↔◌, [], Ok, length, IfOk, OnErr};
 ghost use Rattle.mt_ledger.specs.Pools.{ports_at, ranges, with_ports};
 ghost use Rattle.mt_ledger.specs.Ports.{NoneTwice, placed_each};
+ghost use Rattle.mt_elements.specs.ChainState.{ChainState};
+ghost use Rattle.mt_pipeline.specs.Serving.{CanTurn, EndsTurn};
+ghost use Rattle.mt_pipeline.specs.Standing.{AreGone};
+ghost use Rattle.mt_pipeline.specs.Turns.{IsAsBefore};
+ghost use Rattle.mt_pipeline.specs.declared.server.Turn.TheVariants as turn;
 
+use crate::context::Context;
 use crate::resources::Resources;
+use crate::service::Service;
+use crate::serving::turn_of;
 use mt_flow::Store;
 use mt_ledger::{Ledger, Shares};
-use mt_packet::Stamped;
+use mt_packet::{Stamped, Writes};
 use std::alloc::{AllocError, Global};
 use std::collections::VecDeque;
 use std::marker::Model;
@@ -21,6 +29,17 @@ pub struct Queued {
     pub stamped: Stamped,
 }
 
+/// How a turn ends.
+#[derive(Drop)]
+pub enum Turn {
+    /// The queue is empty.
+    Idle,
+    /// The head of the queue was served.
+    Served(Service),
+    /// A try met the pool of this number, which is not gone, while share and stock were empty. The head waits.
+    Starved(u32),
+}
+
 /// A server: a queue of frames, the mappings that it opened, and its share of each pool.
 #[derive(Drop)]
 pub struct Server {
@@ -32,7 +51,7 @@ pub struct Server {
 impl Model for Server {
     ghost use Rattle.std.specs.Prelude.{◌≤◌, length};
     ghost use Rattle.std.specs.VecDeque.{deque_capacity};
-    ghost use Rattle.mt_pipeline.specs.Servers.{ServerState};
+    ghost use Rattle.mt_pipeline.specs.Turns.{ServerState};
 
     ghost Value = { ServerState };
 
@@ -92,5 +111,36 @@ impl Server {
         ensures stock { ledger.new ≡ record ledger.old { stocks = with_ports ledger.old.stocks pool (placed_each (ports_at self.old.shares pool) (ports_at ledger.old.stocks pool)) } }
     {
         ledger.recall(pool, &mut self.resources.shares)
+    }
+
+    /// Serves the head of the queue. It stays in the queue where a pool is met empty and where there is no memory; what
+    /// was done for it is taken back then.
+    pub fn turn(
+        &mut self,
+        context: &Context,
+        ledger: &mut Ledger,
+        gone: &[u32],
+        writes: &mut Writes,
+    ) -> Result<Turn, AllocError>
+        requires can { (chain : ChainState) × CanTurn chain context.now.rewriters context.now.classes context.now.index self.old ledger.old }
+        requires gone { AreGone gone.now ledger.old }
+        requires room { writes.old < 2 ^ 62 }
+        ensures idle { (result ≡ Ok turn.Idle) ↔ (self.old.queue ≡ []) }
+        ensures ended { IfOk result (EndsTurn context.now.rewriters context.now.classes context.now.index self.old self.new ledger.old ledger.new gone.now writes.old writes.new) }
+        ensures kept { (chain : ChainState) → CanTurn chain context.now.rewriters context.now.classes context.now.index self.old ledger.old
+            → CanTurn chain context.now.rewriters context.now.classes context.now.index self.new ledger.new }
+        ensures gone { AreGone gone.now ledger.new }
+        ensures few { writes.new ≤ writes.old + 24 }
+        ensures unchanged { OnErr result (IsAsBefore self.old self.new ledger.old ledger.new × (writes.new ≡ writes.old)) }
+    {
+        turn_of(
+            self.alloc,
+            &mut self.queue,
+            &mut self.resources,
+            context,
+            ledger,
+            gone,
+            writes,
+        )
     }
 }

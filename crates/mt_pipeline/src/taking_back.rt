@@ -65,6 +65,7 @@ pub(crate) fn take_back(
     ensures ready { IsReady given.now.rewriters.now given.now.gone.now resources.new ledger.new }
     ensures mappings { (mappings : _) (turns : List ℕ) → IsSince mappings turns journal.opened journal.moved.items resources.old.store ledger.old → resources.new.store ≡ mappings }
     ensures turns { (mappings : _) (turns : List ℕ) → IsSince mappings turns journal.opened journal.moved.items resources.old.store ledger.old → ledger.new.turns ≡ turns }
+    ensures stocks { ledger.new.stocks ≡ ledger.old.stocks }
 {
     close_last(given, resources, ledger, journal.opened);
     turn_back(given, ledger, journal.moved);

@@ -11,4 +11,4 @@ build-requires-clause-partition g c =
     let among : chain.entries ≤ length chain.devices = numbered.among in
     let few : length chain.devices ≤ 32 = c.devices.ensures.few in
     let within : chain.entries ≤ 32 = omega arith in
-    (chain.entries, c.classes_are_a_partition.ensures chain.entries (some_devices chain.entries (λ e. accepted.devices (inl e))) within (tree_of chain) c.in_ok-classes.classes c.in_ok-classes.ensures.classes)
+    (chain.entries, c.classes_are_a_partition.ensures chain.entries (some_devices chain.entries (λ e. accepted.devices (inl e))) within (tree_of chain) c.args.classes c.requires.classes)

@@ -1,5 +1,5 @@
-use Rattle.std.proofs.Common.{◌≡◌, ◌<◌, List, ap, sym, subst, ◌∙◌, length, map}
-use Rattle.std.specs.Prelude.{Some, slice_get}
+use Rattle.std.proofs.Common.{◌<◌, List, ap, sym, subst, ◌∙◌, length, map}
+use Rattle.std.specs.Prelude.{slice_get}
 use Rattle.mt_packet.specs.declared.span.Span.{Span}
 use Rattle.mt_terms.specs.declared.tree.Tree.{Tree}
 use Rattle.mt_pipeline.proofs.ClassFound.{class_tree, class_within, index_domain}
