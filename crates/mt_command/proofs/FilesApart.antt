@@ -6,7 +6,7 @@ use Rattle.std.specs.Option.{option_map_or, option_to_list}
 use Rattle.std.specs.Str.{bytes_eq}
 use Rattle.std.proofs.lemmas.Bool.Decides.{nat_tests}
 use Rattle.std.proofs.lemmas.List.{append-nil}
-use Rattle.std.proofs.lemmas.List.Elements.{All-nil, All-cons, filter_map-append}
+use Rattle.std.proofs.lemmas.List.Elements.{All-nil, All-cons}
 use Rattle.std.proofs.lemmas.Slice.Eq.{bytes_eq-Decides}
 use Rattle.mt_lists.proofs.Bools.{chosen, or_false}
 use Rattle.mt_lists.proofs.Members.{cases_in, none_in}
@@ -17,24 +17,18 @@ use Rattle.mt_command.specs.Apart.{AreApart, files_of}
 use Rattle.mt_command.specs.Bindings.{binds_on, is_binding, binding_of, bound_on, bound_file}
 use Rattle.mt_command.specs.Command.{run_of, IsCommand}
 use Rattle.mt_command.specs.Parts.{BindingView, RunView}
-use Rattle.mt_command.specs.Words.{word_at, below, is_option, is_operand, operands_before, is_misplaced, file_in, file_at, is_named, is_barred, is_wrong, is_at_fault}
-use Rattle.mt_command.proofs.Lists.{below_more, filter_more}
+use Rattle.mt_command.specs.Words.{word_at, below, is_option, is_operand, operands_before, is_misplaced, file_in, file_at, is_named, is_barred, is_wrong, is_given, is_unknown, policy_of, is_at_fault}
+use Rattle.mt_command.specs.Policies.{is_refused}
+use Rattle.mt_command.proofs.Lists.{filter_more, found_more}
 
 -- ---- the files that words name, in their order
 
 abbrev named_before : List (List ℕ) → ℕ → List (List ℕ)
 named_before words n = filter_map (file_at words) (below n)
 
-cons_none : (o : Option (List ℕ)) → cons_option o [] ≡ option_to_list o
-cons_none None = refl
-cons_none (Some file) = refl
-
 named_more : (words : List (List ℕ)) (n : ℕ) → named_before words (suc n) ≡ named_before words n ++ option_to_list (file_at words n)
 named_more words n =
-    ap (named_before words) (sym (add-one n))
-    ∙ ap (filter_map (file_at words)) (below_more n)
-    ∙ filter_map-append (file_at words) (below n) (n ∷ [])
-    ∙ ap (λ l. named_before words n ++ l) (cons_none (file_at words n))
+    ap (named_before words) (sym (add-one n)) ∙ found_more (file_at words) n
 
 any_found : (find : ℕ → Option (List ℕ)) (test : List ℕ → Bool) (ks : List ℕ) → list_any (λ k. option_map_or test (find k) false) ks ≡ list_any test (filter_map find ks)
 any_found find test [] = refl
@@ -64,12 +58,12 @@ none_equal file (x ∷ xs) e other c =
     ]
 
 -- the file of a word that is not at fault
-pub fresh : (words : List (List ℕ)) (n : ℕ) (file : List ℕ) → is_at_fault words n ≡ false → file_at words n ≡ Some file → is_barred (is_named words n) file ≡ false
+pub fresh : (names words : List (List ℕ)) (n : ℕ) (file : List ℕ) → is_at_fault names words n ≡ false → file_at words n ≡ Some file → is_barred (is_named words n) file ≡ false
 unfolding is_at_fault is_wrong file_at
-fresh words n file fine is =
+fresh names words n file fine is =
     elim (chosen (is_operand words n) (file_in (length (operands_before words n)) (word_at words n)) None (Some file) is) [
       | inl there ↦
-          let right = or_false (is_option words n) (is_operand words n && is_wrong (is_named words n) (length (operands_before words n)) (word_at words n)) fine in
+          let right = or_false (is_unknown names words n || is_option words n && is_refused names (is_given words n) (word_at words n)) (is_operand words n && is_wrong (is_named words n) (length (operands_before words n)) (word_at words n)) fine in
           let wrong : is_wrong (is_named words n) (length (operands_before words n)) (word_at words n) ≡ false =
           ap (λ b. b && is_wrong (is_named words n) (length (operands_before words n)) (word_at words n)) (sym there.0) ∙ right.1 in
           let free = or_false (is_misplaced (length (operands_before words n)) (word_at words n)) (option_map_or (is_barred (is_named words n)) (file_in (length (operands_before words n)) (word_at words n)) false) wrong in
@@ -95,15 +89,15 @@ one_apart files file apart dash new = (
     and_one [] none = All-cons (λ file. file ≢ codes "-") file [] (λ same. not_equal file (codes "-") dash (sym same)) (All-nil (λ file. file ≢ codes "-"))
     and_one (x ∷ xs) all = All-cons (λ file. file ≢ codes "-") x (xs ++ file ∷ []) (all 0 x (omega arith)) (and_one xs (λ k d less. all (suc k) d (omega (arith, less))))
 
-pub apart_before : (words : List (List ℕ)) (n : ℕ) → ((k : ℕ) → k < n → is_at_fault words k ≡ false) → AllApart (named_before words n)
-apart_before words zero fine = (no_pairs (λ file other. file ≢ other), All-nil (λ file. file ≢ codes "-"))
-apart_before words (suc n) fine =
-    subst AllApart (sym (named_more words n)) (by (file_at words n) refl (apart_before words n (λ k less. fine k (omega (arith, less)))))
+pub apart_before : (names words : List (List ℕ)) (n : ℕ) → ((k : ℕ) → k < n → is_at_fault names words k ≡ false) → AllApart (named_before words n)
+apart_before names words zero fine = (no_pairs (λ file other. file ≢ other), All-nil (λ file. file ≢ codes "-"))
+apart_before names words (suc n) fine =
+    subst AllApart (sym (named_more words n)) (by (file_at words n) refl (apart_before names words n (λ k less. fine k (omega (arith, less)))))
   where
     by : (o : Option (List ℕ)) → file_at words n ≡ o → AllApart (named_before words n) → AllApart (named_before words n ++ option_to_list o)
     by None is apart = subst AllApart (sym (append-nil (named_before words n))) apart
     by (Some file) is apart =
-        let free = or_false (bytes_eq file (codes "-")) (is_named words n file) (fresh words n file (fine n (omega arith)) is) in
+        let free = or_false (bytes_eq file (codes "-")) (is_named words n file) (fresh names words n file (fine n (omega arith)) is) in
         one_apart (named_before words n) file apart free.0 (sym (named_among words n file) ∙ free.1)
 
 -- ---- and are those of the command
@@ -181,14 +175,14 @@ files_said words (a ∷ b ∷ []) run e = absurd (let never : None ≡ Some run 
 files_said words (a ∷ b ∷ c ∷ ks) run e = by (each (λ k. binding_of k (word_at words k)) ks) refl e
   where
     by : (o : Option (List BindingView)) → each (λ k. binding_of k (word_at words k)) ks ≡ o
-        → option_map (λ (bs : List BindingView). record { chain = word_at words b; script = word_at words c; bindings = bs }) o ≡ Some run
+        → option_map (λ (bs : List BindingView). record { chain = word_at words b; script = word_at words c; bindings = bs; ports = policy_of words }) o ≡ Some run
         → word_at words b ∷ word_at words c ∷ files_from words 3 ks ≡ files_of run
     by None is q = absurd (let never : None ≡ Some run = q in cc)
     by (Some bs) is q =
-        let all : record { chain = word_at words b; script = word_at words c; bindings = bs } ≡ run = cc in
+        let all : record { chain = word_at words b; script = word_at words c; bindings = bs; ports = policy_of words } ≡ run = cc in
         ap (λ l. word_at words b ∷ word_at words c ∷ l) (files_bound words 3 ks bs (omega arith) is) ∙ ap files_of all
 
-pub files_apart : (words : List (List ℕ)) (run : RunView) → IsCommand words run → AreApart run
-files_apart words run c =
-    let apart = subst AllApart (named_is words (length words) ∙ files_said words (operands_before words (length words)) run c.says) (apart_before words (length words) (λ k less. c.faultless k)) in
+pub files_apart : (names words : List (List ℕ)) (run : RunView) → IsCommand names words run → AreApart run
+files_apart names words run c =
+    let apart = subst AllApart (named_is words (length words) ∙ files_said words (operands_before words (length words)) run c.says) (apart_before names words (length words) (λ k less. c.faultless k)) in
     record { differ = apart.0; named = apart.1 }

@@ -2,7 +2,9 @@ pub mod Lists
 pub mod Named
 pub mod Rows
 pub mod Steps
+pub mod Taken
 pub mod Ends
+pub mod Known
 pub mod Firsts
 pub mod OneAnswer
 pub mod Written

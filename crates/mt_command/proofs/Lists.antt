@@ -1,11 +1,11 @@
 -- The numbers below a number, and lists that are read from the fourth element on.
 use Rattle.std.proofs.Common.{◌≡◌, ◌∙◌, refl, sym, ap, ℕ, zero, suc, ◌+◌, Bool, true, false, ◌||◌, cond, nat_le, List, [], ◌∷◌, ◌++◌, length, drop, filter, add-one, zero-add, arith}
 use Rattle.std.specs.Prelude.{Option, Some, None, IsSome, option_map, option_and_then}
-use Rattle.std.specs.List.{list_any, range_with_len}
+use Rattle.std.specs.List.{list_any, range_with_len, filter_map, cons_option}
 use Rattle.std.specs.Option.{option_to_list}
 use Rattle.std.proofs.lemmas.Bool.Decides.{nat_tests}
 use Rattle.std.proofs.lemmas.List.{append-nil}
-use Rattle.std.proofs.lemmas.List.Elements.{filter-append}
+use Rattle.std.proofs.lemmas.List.Elements.{filter-append, filter_map-append}
 use Rattle.std.proofs.lemmas.List.Folds.{list_any-append}
 use Rattle.mt_lists.specs.Options.{each}
 use Rattle.mt_command.specs.Words.{below}
@@ -28,6 +28,14 @@ any_more test n = ap (list_any test) (below_more n) ∙ list_any-append test (be
 
 pub filter_more : (test : ℕ → Bool) (n : ℕ) → filter test (below (n + 1)) ≡ filter test (below n) ++ cond (test n) (n ∷ []) []
 filter_more test n = ap (filter test) (below_more n) ∙ filter-append test (below n) (n ∷ [])
+
+one_found : {A : Type 0} (o : Option A) → cons_option o [] ≡ option_to_list o
+one_found None = refl
+one_found (Some x) = refl
+
+-- what is found in one element more
+pub found_more : {A : Type 0} (find : ℕ → Option A) (n : ℕ) → filter_map find (below (n + 1)) ≡ filter_map find (below n) ++ option_to_list (find n)
+found_more find n = ap (filter_map find) (below_more n) ∙ filter_map-append find (below n) (n ∷ []) ∙ ap (λ l. filter_map find (below n) ++ l) (one_found (find n))
 
 -- ---- each element from the fourth on
 

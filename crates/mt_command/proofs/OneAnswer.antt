@@ -1,11 +1,11 @@
 -- Words, and bindings with devices, have one answer.
-use Rattle.std.proofs.Common.{◌≡◌, ◌∙◌, sym, ap, inl, inr, ℕ, ◌+◌, ◌<◌, ◌≤◌, true, false, List, [], ◌∷◌, length, slice_get, arith}
+use Rattle.std.proofs.Common.{◌≡◌, ◌∙◌, sym, ap, inl, inr, ℕ, ◌+◌, ◌<◌, true, false, List, length, slice_get, arith}
 use Rattle.std.specs.Prelude.{Some, None}
 use Rattle.std.proofs.lemmas.Bool.{cases_lt}
 use Rattle.std.proofs.lemmas.Option.{slice_get_within}
 use Rattle.mt_command.specs.Parts.{BindingView, BoundView, DeviceView, RunView}
-use Rattle.mt_command.specs.Words.{operands_before, is_at_fault}
-use Rattle.mt_command.specs.Command.{run_of, IsCommand, IsFirstAtFault}
+use Rattle.mt_command.specs.Words.{is_at_fault}
+use Rattle.mt_command.specs.Command.{IsCommand, IsFirstAtFault}
 use Rattle.mt_command.specs.Devices.{AreBound, AreFit, IsFirstUnbound, IsFirstUnfit}
 use Rattle.mt_command.proofs.Ends.{fine_past}
 
@@ -26,43 +26,33 @@ ordered n m = elim (cases_lt n m) [
 
 -- ---- words
 
-at_fault_and_fine : (words : List (List ℕ)) (n : ℕ) → is_at_fault words n ≡ true → is_at_fault words n ≡ false → ⊥
-at_fault_and_fine words n wrong fine = let e : true ≡ false = sym wrong ∙ fine in cc
+at_fault_and_fine : (names words : List (List ℕ)) (n : ℕ) → is_at_fault names words n ≡ true → is_at_fault names words n ≡ false → ⊥
+at_fault_and_fine names words n wrong fine = let e : true ≡ false = sym wrong ∙ fine in cc
 
-pub one_command : (words : List (List ℕ)) (r s : RunView) → IsCommand words r → IsCommand words s → r ≡ s
-one_command words r s c d = same_some r s (sym c.says ∙ d.says)
+pub one_command : (names words : List (List ℕ)) (r s : RunView) → IsCommand names words r → IsCommand names words s → r ≡ s
+one_command names words r s c d = same_some r s (sym c.says ∙ d.says)
 
-three_operands : (words : List (List ℕ)) (numbers : List ℕ) (r : RunView) → run_of words numbers ≡ Some r → 3 ≤ length numbers
-three_operands words [] r says = absurd (let e : None ≡ Some r = says in cc)
-three_operands words (a ∷ []) r says = absurd (let e : None ≡ Some r = says in cc)
-three_operands words (a ∷ b ∷ []) r says = absurd (let e : None ≡ Some r = says in cc)
-three_operands words (a ∷ b ∷ c ∷ rest) r says = omega arith
-
-pub command_or_fault : (words : List (List ℕ)) (r : RunView) (n : ℕ) → IsCommand words r → IsFirstAtFault words n → ⊥
-command_or_fault words r n c f = elim f.fault [
-  | inl wrong ↦ at_fault_and_fine words n wrong (c.faultless n)
-  | inr short ↦
-      let many = three_operands words (operands_before words (length words)) r c.says in
-      let same = ap (λ k. length (operands_before words k)) short.at_end in
-      let few = short.few in
-      omega (arith, many, same, few)
+pub command_or_fault : (names words : List (List ℕ)) (r : RunView) (n : ℕ) → IsCommand names words r → IsFirstAtFault names words n → ⊥
+command_or_fault names words r n c f = elim f.fault [
+  | inl wrong ↦ at_fault_and_fine names words n wrong (c.faultless n)
+  | inr short ↦ (let e : true ≡ false = sym short.1 ∙ c.complete in cc)
 ]
 
 -- the lower of two
-first_lower : (words : List (List ℕ)) (n m : ℕ) → n < m → IsFirstAtFault words n → IsFirstAtFault words m → ⊥
-first_lower words n m less f g = elim f.fault [
-  | inl wrong ↦ at_fault_and_fine words n wrong (g.first n less)
+first_lower : (names words : List (List ℕ)) (n m : ℕ) → n < m → IsFirstAtFault names words n → IsFirstAtFault names words m → ⊥
+first_lower names words n m less f g = elim f.fault [
+  | inl wrong ↦ at_fault_and_fine names words n wrong (g.first n less)
   | inr short ↦ elim g.fault [
-    | inl wrong ↦ at_fault_and_fine words m wrong (fine_past words m (let end = short.at_end in omega (arith, less, end)))
-    | inr other ↦ (let end = short.at_end in let also = other.at_end in omega (arith, less, end, also))
+    | inl wrong ↦ at_fault_and_fine names words m wrong (fine_past names words m (let end = short.0 in omega (arith, less, end)))
+    | inr other ↦ (let end = short.0 in let also = other.0 in omega (arith, less, end, also))
   ]
 ]
 
-pub one_fault : (words : List (List ℕ)) (n m : ℕ) → IsFirstAtFault words n → IsFirstAtFault words m → n ≡ m
-one_fault words n m f g = elim (ordered n m) [
-  | lower less ↦ absurd (first_lower words n m less f g)
+pub one_fault : (names words : List (List ℕ)) (n m : ℕ) → IsFirstAtFault names words n → IsFirstAtFault names words m → n ≡ m
+one_fault names words n m f g = elim (ordered n m) [
+  | lower less ↦ absurd (first_lower names words n m less f g)
   | equal e ↦ e
-  | higher less ↦ absurd (first_lower words m n less g f)
+  | higher less ↦ absurd (first_lower names words m n less g f)
 ]
 
 -- ---- bindings

@@ -6,23 +6,35 @@ use Rattle.mt_command.specs.declared.binding.Side.{Side}
 use Rattle.mt_command.specs.declared.binding.Side.TheVariants.{In, Out}
 use Rattle.mt_command.specs.Parts.{BindingView, RunView, DeviceView, BoundView}
 use Rattle.mt_command.specs.Bindings.{binds_on, is_binding, binding_of}
-use Rattle.mt_command.specs.Words.{below, is_behind, is_operand, operands_before, is_misplaced, file_in, file_at, is_named, is_wrong, is_at_fault}
+use Rattle.mt_command.specs.Policies.{is_policy, is_value, is_refused}
+use Rattle.mt_command.specs.Words.{below, is_behind, is_awaited, is_operand, policy_at, policies_before, operands_before, is_misplaced, file_in, file_at, is_named, is_wrong, is_at_fault, is_cut_short}
 use Rattle.mt_command.specs.Command.{run_of}
 use Rattle.mt_command.specs.Devices.{is_unfit, is_unbound, file_for, bound_of}
 
 -- ---- words
 
--- the first word at fault, or else what the operands say, or else the number of words
-abbrev told : List (List ℕ) → Result RunView ℕ
-told words = first (position (is_at_fault words) (below (length words)))
+-- the first word at fault, or else the number of words where something is missing, or else what they say
+abbrev told_with : List (List ℕ) → List (List ℕ) → Result RunView ℕ
+told_with names words = first (position (is_at_fault names words) (below (length words)))
   where
-    complete : Option RunView → Result RunView ℕ
-    complete (Some run) = Ok run
-    complete None = Err (length words)
+    said : Option RunView → Result RunView ℕ
+    said (Some run) = Ok run
+    said None = Err (length words)
+
+    complete : Bool → Result RunView ℕ
+    complete true = Err (length words)
+    complete false = said (run_of words (operands_before words (length words)))
 
     first : Option ℕ → Result RunView ℕ
     first (Some n) = Err n
-    first None = complete (run_of words (operands_before words (length words)))
+    first None = complete (is_cut_short names words)
+
+-- the names of the program's policies
+abbrev three_names : List (List ℕ)
+three_names = codes "low" ∷ codes "high" ∷ codes "spread" ∷ []
+
+abbrev told : List (List ℕ) → Result RunView ℕ
+told = told_with three_names
 
 -- words, and the number that is told of them
 abbrev at_fault : List (List (List ℕ) × ℕ)
@@ -47,17 +59,33 @@ at_fault =
     (codes "run" ∷ codes "--" ∷ codes "c" ∷ codes "-" ∷ [], 3) ∷
     (codes "run" ∷ codes "--" ∷ codes "c" ∷ codes "s" ∷ codes "--" ∷ codes "in:a=x" ∷ [], 4) ∷
     (codes "run" ∷ codes "c" ∷ codes "s" ∷ codes "--" ∷ codes "-" ∷ [], 4) ∷
+    (codes "run" ∷ codes "c" ∷ codes "s" ∷ codes "in:a=x" ∷ codes "out:b=y" ∷ codes "--ports" ∷ codes "none" ∷ [], 6) ∷
+    (codes "run" ∷ codes "c" ∷ codes "s" ∷ codes "--ports=none" ∷ [], 3) ∷
+    (codes "run" ∷ codes "--ports" ∷ codes "c" ∷ codes "s" ∷ [], 2) ∷
+    (codes "run" ∷ codes "c" ∷ codes "s" ∷ codes "--ports" ∷ [], 4) ∷
+    (codes "run" ∷ codes "c" ∷ codes "--ports" ∷ codes "-low" ∷ codes "s" ∷ [], 3) ∷
+    (codes "run" ∷ codes "c" ∷ codes "s" ∷ codes "--ports" ∷ codes "--" ∷ [], 4) ∷
+    (codes "run" ∷ codes "c" ∷ codes "s" ∷ codes "--ports=-low" ∷ [], 3) ∷
+    (codes "run" ∷ codes "c" ∷ codes "s" ∷ codes "--ports=" ∷ [], 3) ∷
+    (codes "run" ∷ codes "c" ∷ codes "s" ∷ codes "--portslow" ∷ [], 3) ∷
+    (codes "run" ∷ codes "c" ∷ codes "s" ∷ codes "--ports" ∷ codes "low" ∷ codes "--ports" ∷ codes "high" ∷ [], 5) ∷
+    (codes "run" ∷ codes "c" ∷ codes "s" ∷ codes "--ports=low" ∷ codes "--ports" ∷ [], 4) ∷
+    (codes "run" ∷ codes "c" ∷ codes "s" ∷ codes "--" ∷ codes "--ports" ∷ codes "low" ∷ [], 4) ∷
+    (codes "run" ∷ codes "c" ∷ codes "--ports" ∷ codes "low" ∷ [], 4) ∷
     []
 
 faults : map (λ row. told row.0) at_fault ≡ map (λ row. Err row.1) at_fault
-unfolding binds_on is_binding binding_of is_behind is_operand operands_before is_misplaced file_in file_at is_named is_wrong is_at_fault each
+unfolding binds_on is_binding binding_of is_policy is_value is_refused is_behind is_awaited is_operand policy_at policies_before operands_before is_misplaced file_in file_at is_named is_wrong is_at_fault is_cut_short each
 faults = refl
 
 abbrev bound : Side → List ℕ → List ℕ → ℕ → BindingView
 bound side device file word = record { side = side; device = device; file = file; word = word }
 
 abbrev a_run : List ℕ → List ℕ → List BindingView → RunView
-a_run chain script bindings = record { chain = chain; script = script; bindings = bindings }
+a_run chain script bindings = record { chain = chain; script = script; bindings = bindings; ports = codes "low" }
+
+abbrev with_ports : List ℕ → RunView
+with_ports ports = record { chain = codes "c"; script = codes "s"; bindings = []; ports = ports }
 
 -- words, and the command that they are
 abbrev fine : List (List (List ℕ) × RunView)
@@ -68,11 +96,30 @@ fine =
     (codes "run" ∷ codes "c" ∷ codes "s" ∷ codes "in:a=x" ∷ codes "out:b=y" ∷ [], a_run (codes "c") (codes "s") ((bound In (codes "a") (codes "x") 3) ∷ (bound Out (codes "b") (codes "y") 4) ∷ [])) ∷
     (codes "run" ∷ codes "c" ∷ codes "--" ∷ codes "s" ∷ codes "out:a=-x" ∷ [], a_run (codes "c") (codes "s") ((bound Out (codes "a") (codes "-x") 4) ∷ [])) ∷
     (codes "run" ∷ codes "c" ∷ codes "s" ∷ codes "in:a=" ∷ codes "in:=x=y" ∷ [], a_run (codes "c") (codes "s") ((bound In (codes "a") ([]) 3) ∷ (bound In ([]) (codes "x=y") 4) ∷ [])) ∷
+    (codes "run" ∷ codes "c" ∷ codes "s" ∷ codes "--ports" ∷ codes "high" ∷ [], with_ports (codes "high")) ∷
+    (codes "--ports" ∷ codes "spread" ∷ codes "run" ∷ codes "c" ∷ codes "s" ∷ [], with_ports (codes "spread")) ∷
+    (codes "run" ∷ codes "--ports=high" ∷ codes "c" ∷ codes "s" ∷ [], with_ports (codes "high")) ∷
     []
 
 commands : map (λ row. told row.0) fine ≡ map (λ row. Ok row.1) fine
-unfolding binds_on is_binding binding_of is_behind is_operand operands_before is_misplaced file_in file_at is_named is_wrong is_at_fault each
+unfolding binds_on is_binding binding_of is_policy is_value is_refused is_behind is_awaited is_operand policy_at policies_before operands_before is_misplaced file_in file_at is_named is_wrong is_at_fault is_cut_short each
 commands = refl
+
+-- where no policy has the name of the default, one has to be named
+abbrev two_names : List (List ℕ)
+two_names = codes "first" ∷ codes "last" ∷ []
+
+no_default : told_with two_names (codes "run" ∷ codes "c" ∷ codes "s" ∷ []) ≡ Err 3
+unfolding binds_on is_binding binding_of is_policy is_value is_refused is_behind is_awaited is_operand policy_at policies_before operands_before is_misplaced file_in file_at is_named is_wrong is_at_fault is_cut_short each
+no_default = refl
+
+no_default_first_word : told_with two_names (codes "run" ∷ codes "c" ∷ codes "s" ∷ codes "in:a" ∷ []) ≡ Err 3
+unfolding binds_on is_binding binding_of is_policy is_value is_refused is_behind is_awaited is_operand policy_at policies_before operands_before is_misplaced file_in file_at is_named is_wrong is_at_fault is_cut_short each
+no_default_first_word = refl
+
+another_named : told_with two_names (codes "run" ∷ codes "c" ∷ codes "s" ∷ codes "--ports" ∷ codes "last" ∷ []) ≡ Ok (with_ports (codes "last"))
+unfolding binds_on is_binding binding_of is_policy is_value is_refused is_behind is_awaited is_operand policy_at policies_before operands_before is_misplaced file_in file_at is_named is_wrong is_at_fault is_cut_short each
+another_named = refl
 
 -- ---- devices
 

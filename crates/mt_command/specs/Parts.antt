@@ -17,6 +17,8 @@ pub record RunView : Type 0 where
   pub chain : List ℕ
   pub script : List ℕ
   pub bindings : List BindingView
+  -- the policy by which ports are taken
+  pub ports : List ℕ
 
 pub record DeviceView : Type 0 where
   pub name : List ℕ
@@ -32,7 +34,7 @@ abbrev pub binding_view : Binding → BindingView
 binding_view b = record { side = b.side; device = b.device.now; file = b.file.now; word = b.word }
 
 abbrev pub run_view : Run → RunView
-run_view r = record { chain = r.chain.now; script = r.script.now; bindings = map binding_view r.bindings.items }
+run_view r = record { chain = r.chain.now; script = r.script.now; bindings = map binding_view r.bindings.items; ports = r.ports.now }
 
 abbrev pub device_view : Device → DeviceView
 device_view d = record { name = d.name.now; is_input = d.is_input; is_output = d.is_output }

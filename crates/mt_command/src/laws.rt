@@ -1,17 +1,23 @@
 //! What holds of all words, bindings and devices. The contract of each function is the law; there is nothing to
 //! run.
-ghost use Rattle.std.specs.Prelude.{◌≡◌, ◌↔◌, ℕ, List, Some};
+ghost use Rattle.std.specs.Prelude.{◌≡◌, ◌↔◌, ℕ, true, List, Some};
 ghost use Rattle.mt_command.specs.Apart.{AreApart, AreBoundApart, HaveNames};
 ghost use Rattle.mt_command.specs.Bindings.{binding_of, IsBinding};
 ghost use Rattle.mt_command.specs.Command.{IsCommand, IsFirstAtFault};
 ghost use Rattle.mt_command.specs.Devices.{AreBound, IsFirstUnbound, IsFirstUnfit};
 ghost use Rattle.mt_command.specs.Parts.{BindingView, BoundView, DeviceView, RunView};
+ghost use Rattle.mt_command.specs.Policies.{is_policy};
 
-/// Words are one command, or have one first fault, and not both.
+/// Words are one command, or have one first fault, and not both, whatever names policies have.
 pub fn one_answer_of_words()
-    ensures command { (words : List (List ℕ)) (r s : RunView) → IsCommand words r → IsCommand words s → r ≡ s }
-    ensures either { (words : List (List ℕ)) (r : RunView) (n : ℕ) → IsCommand words r → IsFirstAtFault words n → ⊥ }
-    ensures fault { (words : List (List ℕ)) (n m : ℕ) → IsFirstAtFault words n → IsFirstAtFault words m → n ≡ m }
+    ensures command { (names words : List (List ℕ)) (r s : RunView) → IsCommand names words r → IsCommand names words s → r ≡ s }
+    ensures either { (names words : List (List ℕ)) (r : RunView) (n : ℕ) → IsCommand names words r → IsFirstAtFault names words n → ⊥ }
+    ensures fault { (names words : List (List ℕ)) (n m : ℕ) → IsFirstAtFault names words n → IsFirstAtFault names words m → n ≡ m }
+{}
+
+/// The policy of a command is one of those whose names are given.
+pub fn policies_are_known()
+    ensures { (names words : List (List ℕ)) (run : RunView) → IsCommand names words run → is_policy names run.ports ≡ true }
 {}
 
 /// Bindings give devices one list of files, or have one first binding at fault, or there is one lowest device
@@ -40,7 +46,7 @@ pub fn bindings_are_written()
 
 /// The files of a command all differ, and none is `-`.
 pub fn files_are_apart()
-    ensures { (words : List (List ℕ)) (run : RunView) → IsCommand words run → AreApart run }
+    ensures { (names words : List (List ℕ)) (run : RunView) → IsCommand names words run → AreApart run }
 {}
 
 /// Where the files of a command all differ, and the names of devices too, so do the files that devices have from

@@ -3,16 +3,20 @@
 //! `specs/Words.antt` first.
 //!
 //! ```text
-//! run CHAIN SCRIPT BINDING..
+//! run CHAIN SCRIPT BINDING.. [--ports NAME]
 //! ```
 //!
 //! A binding is `in:DEVICE=FILE`, the capture of what arrives on a device, or `out:DEVICE=FILE`, the capture that
-//! what is sent on it is written to.
+//! what is sent on it is written to. The option names the policy by which ports are taken, and stands anywhere
+//! before a `--`, also as `--ports=NAME`. The names that policies have are given by the caller.
 #![tactic(auto)]
 
 mod binding;
 mod devices;
 pub mod laws;
+mod operands;
+mod policy;
+mod reader;
 mod words;
 
 pub use binding::{Binding, Side};

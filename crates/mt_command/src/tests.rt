@@ -23,6 +23,73 @@ fn number_of(answer: &Result<Run<'_>, WordsFault>) -> Option<u32> {
     }
 }
 
+// What is told of a line, where policies have names: the number that is told, or else the policy.
+fn policy_of(alloc: Global, line: &str, names: &[&[u8]]) -> Result<String, AllocError> {
+    let words = words_of(alloc, line)?;
+    if words.len() > 512 {
+        return Err(AllocError);
+    }
+    match read(alloc, words.as_slice(), names) {
+        Ok(run) => match str::from_utf8(run.ports) {
+            Ok(name) => String::from_str(alloc, name),
+            Err(_) => Err(AllocError),
+        },
+        Err(WordsFault::Word(number)) => format!(in alloc; "{number}"),
+        Err(WordsFault::NoMemory) => Err(AllocError),
+    }
+}
+
+/// A line has the policy that the words behind it name, or the number that is told of them.
+#[test]
+fn words_name_a_policy(rt: HostRuntime) -> Result<(), Fail> {
+    let cases = "low:run c s
+high:run c s --ports high
+spread:--ports spread run c s in:a=x
+high:run --ports=high c s
+high:run c s --ports=high -- in:a=x
+6:run c s in:a=x out:b=y --ports none
+3:run c s --ports=none
+2:run --ports c s
+4:run c s --ports
+3:run c --ports -low s
+4:run c s --ports --
+3:run c s --ports=-low
+3:run c s --ports=
+3:run c s --portslow
+5:run c s --ports low --ports high
+4:run c s --ports=low --ports
+3:run --ports=low c --ports=low
+4:run c --ports low
+4:run c s -- --ports low
+2:run c - --ports none";
+    let names = [b"low".as_slice(), b"high".as_slice(), b"spread".as_slice()];
+    for case in cases.split('\n') {
+        if let Some((told, line)) = case.split_once(':') {
+            let policy = policy_of(rt.alloc(), line, &names)?;
+            assert_eq!(rt; (case, policy.as_str()), (case, told));
+        }
+    }
+    Ok(())
+}
+
+/// Where no policy is called `low`, one has to be named.
+#[test]
+fn a_policy_is_named_where_none_is_low(rt: HostRuntime) -> Result<(), Fail> {
+    let cases = "3:run c s
+4:run c s in:a=x
+3:run c s in:a
+last:run c s --ports last
+5:run c s in:a=x --ports low";
+    let names = [b"first".as_slice(), b"last".as_slice()];
+    for case in cases.split('\n') {
+        if let Some((told, line)) = case.split_once(':') {
+            let policy = policy_of(rt.alloc(), line, &names)?;
+            assert_eq!(rt; (case, policy.as_str()), (case, told));
+        }
+    }
+    Ok(())
+}
+
 /// A line has the number that is told of the words behind it, or `ok`.
 #[test]
 fn words_are_commands_or_at_fault(rt: HostRuntime) -> Result<(), Fail> {
@@ -56,7 +123,7 @@ ok:run c s in:a=x=y";
         if let Some((number, line)) = case.split_once(':') {
             let words = words_of(rt.alloc(), line)?;
             if words.len() <= 512 {
-                let answer = read(rt.alloc(), words.as_slice());
+                let answer = read(rt.alloc(), words.as_slice(), &[b"low".as_slice()]);
                 assert_eq!(rt;
                     (case, number_of(&answer)),
                     (case, number.parse::<u32>().ok())
@@ -112,7 +179,9 @@ device 3|run c s in:a=x out:b=y in:c=z";
         if let Some((wanted, line)) = case.split_once('|') {
             let words = words_of(rt.alloc(), line)?;
             if words.len() <= 512 {
-                let run = read(rt.alloc(), words.as_slice()).map_err(|_| Fail::from("no command"))?;
+                let run = read(rt.alloc(), words.as_slice(), &[b"low".as_slice()]).map_err(
+                    |_| Fail::from("no command"),
+                )?;
                 assert_eq!(rt; (run.chain, run.script), ("c", "s"));
                 assert_eq!(rt; told(rt.alloc(), &run)?.as_str(), wanted);
             }
