@@ -22,7 +22,8 @@ use Rattle.mt_command.specs.Command.{IsCommand, IsFirstAtFault}
 use Rattle.mt_command.specs.Devices.{AreBound}
 use Rattle.metron.specs.Inputs.{Told, ReadsAs, IsChainRead, IsChainFault, IsScriptRead, ScriptFault, text_limit, devices_of, inputs_of, outputs_of, BeginWell, IsFirstRefused, CaptureFault}
 use Rattle.metron.specs.Serving.{Held, OutputFault, fault_of, IsEnd}
-use Rattle.metron.specs.Causes.{State, IsAtChain, IsAtScript, IsAtCaptures, IsUntouched, BindCause, IsRefusal, AllBegin, IsRunOf, IsRun}
+use Rattle.metron.specs.Outcome.{Account}
+use Rattle.metron.specs.Causes.{Call, State, IsAtChain, IsAtScript, IsAtCaptures, IsUntouched, BindCause, IsRefusal, AllBegin, IsRunOf, IsRun}
 use Rattle.metron.specs.Causes.IsRefusal.{no_memory, no_command, chain_refused, not_bound, script_refused}
 use Rattle.metron.specs.Causes.IsRunOf.{capture_refused, ended, input_failed, broken_off}
 use Rattle.metron.specs.Causes.IsRun.{refused, ran}
@@ -30,7 +31,7 @@ use Rattle.metron.specs.Laws.{OneAnswer}
 use Rattle.metron.specs.Due.{end_at, or_else, captures_due, OweAll, CommandsOwe, TextOwes, ScriptOwes, ChainOwes, ReadingOwes, ChainTextOwes, IsOwed, IsInterruption, IsExact, IsComplete, NoneFailed, IsFinished, IsEarly}
 use Rattle.metron.specs.declared.outcome.FileId.TheVariants as file
 use Rattle.metron.specs.declared.outcome.Fault.{Fault}
-use Rattle.metron.specs.declared.outcome.Fault.TheVariants.{Done, UsageWord, Unbound, Unbuilt, TooLong, Click, Script, Capture as CaptureTold, Read, Write, Memory, Frames}
+use Rattle.metron.specs.declared.outcome.Fault.TheVariants.{Done, UsageWord, Unbound, Unbuilt, TooLong, Click, Classes, Script, Capture as CaptureTold, Read, Write, Memory, Frames}
 use Rattle.metron.specs.declared.outcome.Fault.TheVariants as fault
 
 -- ---- captures that are told
@@ -157,7 +158,7 @@ reading_owes laws c held f text reading reads owes = record {
 
 chain_owes : OneAnswer → (c : RunView) (held : Held) (f : Fault) (chain : ChainState) (told : Told) → IsChainRead told chain → ChainOwes chain c held f → Owes told c held f
 chain_owes laws c held f chain None read owes = tt
-chain_owes laws c held f chain (Some text) read owes = reading_owes laws c held f text (Ok chain) (read.1, read.0) owes
+chain_owes laws c held f chain (Some text) read owes = reading_owes laws c held f text (Ok chain) (read.0, read.1) owes
 
 module _ (laws : OneAnswer) (c : RunView) (chain : ChainState) (held : Held) where
   -- its devices have these files
@@ -186,20 +187,20 @@ chain_fault : OneAnswer → (c : RunView) (held : Held) (J : Fault → Type 0) �
 chain_fault laws c held J memory None before after (TooLong file.Chain) read why = inl tt
 chain_fault laws c held J memory None before after (Click told) read why = inl tt
 chain_fault laws c held J memory None before after (fault.Chain told) read why = inl tt
-chain_fault laws c held J memory None before after (Unbuilt file.Chain) read why = inl tt
+chain_fault laws c held J memory None before after (Classes count) read why = inl tt
 chain_fault laws c held J memory (Some text) before after (TooLong file.Chain) read why = inl (reading_owes laws c held (TooLong file.Chain) text (Err (TooLong file.Chain)) why refl)
 chain_fault laws c held J memory (Some text) before after (Click told) read why = inl (reading_owes laws c held (Click told) text (Err (Click told)) why refl)
 chain_fault laws c held J memory (Some text) before after (fault.Chain told) read why = inl (reading_owes laws c held (fault.Chain told) text (Err (fault.Chain told)) why refl)
-chain_fault laws c held J memory (Some text) before after (Unbuilt file.Chain) read why = inl (reading_owes laws c held (Unbuilt file.Chain) text (Err (Unbuilt file.Chain)) why refl)
+chain_fault laws c held J memory (Some text) before after (Classes count) read why = inl (reading_owes laws c held (Classes count) text (Err (Classes count)) why refl)
 chain_fault laws c held J memory told before after (Read file.Chain) read why = inr (read why)
 chain_fault laws c held J memory told before after Memory read why = inr memory
 chain_fault laws c held J memory told before after f read why = absurd why
 
 -- ---- whole runs
 
-module _ (laws : OneAnswer) (words : List (List ℕ)) (old new : State) (c : RunView) (is : IsCommand words c) where
+module _ (laws : OneAnswer) (call : Call) (old new : State) (c : RunView) (is : IsCommand call.policies call.words c) where
   abbrev Or : Fault → Type 0
-  Or f = IsOwed c old.held f ⊎ IsInterruption words c old new f
+  Or f = IsOwed c old.held f ⊎ IsInterruption call c old new f
 
   either : (A B J : Type 0) → (A → B) → A ⊎ J → B ⊎ J
   either A B J f h = elim h [
@@ -208,79 +209,79 @@ module _ (laws : OneAnswer) (words : List (List ℕ)) (old new : State) (c : Run
   ]
 
   -- from a chain that was read
-  read_so : (f : Fault) (chain : ChainState) → IsAtChain words old.held c chain → ChainOwes chain c old.held f ⊎ IsInterruption words c old new f → Or f
+  read_so : (f : Fault) (chain : ChainState) → IsAtChain call old.held c chain → ChainOwes chain c old.held f ⊎ IsInterruption call c old new f → Or f
   read_so f chain stands h = either _ _ _ (chain_owes laws c old.held f chain (old.held c.chain) stands.chain_is) h
 
-  bound_so : (f : Fault) (chain : ChainState) (bound : List BoundView) → IsAtScript words old.held c chain bound
-      → IfSome (old.held c.script) (λ text. ScriptOwes text old.held (inputs_of chain bound) f) ⊎ IsInterruption words c old new f → Or f
+  bound_so : (f : Fault) (chain : ChainState) (bound : List BoundView) → IsAtScript call old.held c chain bound
+      → IfSome (old.held c.script) (λ text. ScriptOwes text old.held (inputs_of chain bound) f) ⊎ IsInterruption call c old new f → Or f
   bound_so f chain bound stands h = read_so f chain stands.before (either _ _ _ (bound_owes laws c chain old.held f bound stands.are_bound) h)
 
-  idle_so : (f : Fault) (chain : ChainState) (bound : List BoundView) → IsAtCaptures words old.held c chain bound → OweAll old.held (inputs_of chain bound) f ⊎ IsInterruption words c old new f → Or f
+  idle_so : (f : Fault) (chain : ChainState) (bound : List BoundView) → IsAtCaptures call old.held c chain bound → OweAll old.held (inputs_of chain bound) f ⊎ IsInterruption call c old new f → Or f
   idle_so f chain bound stands h = bound_so f chain bound stands.before (either _ _ _ (idle_owes old.held (inputs_of chain bound) f (old.held c.script) stands.script) h)
 
-  output_so : (f : Fault) (chain : ChainState) (bound : List BoundView) → IsAtScript words old.held c chain bound → OutputFault (outputs_of bound) old.failed_writes new.failed_writes f → IsInterruption words c old new f
+  output_so : (f : Fault) (chain : ChainState) (bound : List BoundView) → IsAtScript call old.held c chain bound → OutputFault (outputs_of bound) old.failed_writes new.failed_writes f → IsInterruption call c old new f
   output_so (Write (file.Output device)) chain bound stands why = (chain, bound, stands, why)
   output_so Memory chain bound stands why = tt
   output_so f chain bound stands why = absurd why
 
-  capture_so : (f : Fault) (chain : ChainState) (bound : List BoundView) → IsAtScript words old.held c chain bound → CaptureFault old.held (inputs_of chain bound) old.failed_reads new.failed_reads f
-      → OweAll old.held (inputs_of chain bound) f ⊎ IsInterruption words c old new f
+  capture_so : (f : Fault) (chain : ChainState) (bound : List BoundView) → IsAtScript call old.held c chain bound → CaptureFault old.held (inputs_of chain bound) old.failed_reads new.failed_reads f
+      → OweAll old.held (inputs_of chain bound) f ⊎ IsInterruption call c old new f
   capture_so (CaptureTold device why) chain bound stands h = inl (refused_owe old.held (inputs_of chain bound) (CaptureTold device why) device why h refl)
   capture_so (Read (file.Capture device)) chain bound stands h = inr (chain, bound, stands, h)
   capture_so Memory chain bound stands h = inr tt
   capture_so f chain bound stands h = absurd h
 
-  run_so : (f : Fault) (order picks : List ℕ) (chain : ChainState) (bound : List BoundView) → IsAtCaptures words old.held c chain bound → IsRunOf chain bound old new order picks f
-      → OweAll old.held (inputs_of chain bound) f ⊎ IsInterruption words c old new f
-  run_so f order picks chain bound stands (capture_refused why u) = capture_so f chain bound stands.before why
-  run_so f order picks chain bound stands (ended frames fates end begin merged sound is run wrote) = inl (ended_owe old.held (inputs_of chain bound) f frames end begin merged is)
-  run_so f order picks chain bound stands (input_failed frames fates device begin front is rose run wrote) =
-      inr (subst (λ g. IsInterruption words c old new g) (sym is) (chain, bound, stands.before, rose))
-  run_so f order picks chain bound stands (broken_off frames fates begin front why run wrote) = inr (output_so f chain bound stands.before why)
+  run_so : (f : Fault) (account : Account) (chain : ChainState) (bound : List BoundView) → IsAtCaptures call old.held c chain bound → IsRunOf chain bound old new account f
+      → OweAll old.held (inputs_of chain bound) f ⊎ IsInterruption call c old new f
+  run_so f account chain bound stands (capture_refused why u) = capture_so f chain bound stands.before why
+  run_so f account chain bound stands (ended frames fates end begin merged sound is run classes wrote) = inl (ended_owe old.held (inputs_of chain bound) f frames end begin merged is)
+  run_so f account chain bound stands (input_failed frames fates device begin front is rose run classes wrote) =
+      inr (subst (λ g. IsInterruption call c old new g) (sym is) (chain, bound, stands.before, rose))
+  run_so f account chain bound stands (broken_off frames fates begin front why run classes wrote) = inr (output_so f chain bound stands.before why)
 
-  same_command : (d : RunView) → IsCommand words d → d ≡ c
-  same_command d other = laws.command words d c other is
+  same_command : (d : RunView) → IsCommand call.policies call.words d → d ≡ c
+  same_command d other = laws.command call d c other is
 
-  refusal_so : (f : Fault) → IsRefusal words old new f → Or f
-  refusal_so f (no_memory memory) = inr (subst (λ g. IsInterruption words c old new g) (sym memory) tt)
-  refusal_so f (no_command n first usage) = absurd (laws.not_both words n c first is)
+  refusal_so : (f : Fault) → IsRefusal call old new f → Or f
+  refusal_so f (no_memory memory) = inr (subst (λ g. IsInterruption call c old new g) (sym memory) tt)
+  refusal_so f (no_command n first usage) = absurd (laws.not_both call n c first is)
   refusal_so f (chain_refused d other why) =
-      chain_fault laws c old.held (λ g. IsInterruption words c old new g) tt (old.held c.chain) (old.failed_reads c.chain) (new.failed_reads c.chain) f (λ rose. rose)
+      chain_fault laws c old.held (λ g. IsInterruption call c old new g) tt (old.held c.chain) (old.failed_reads c.chain) (new.failed_reads c.chain) f (λ rose. rose)
       (subst (λ (e : RunView). IsChainFault (old.held e.chain) (old.failed_reads e.chain) (new.failed_reads e.chain) f) (same_command d other) why)
   refusal_so f (not_bound d chain stands why) =
       let same = same_command d stands.words_are in
-      read_so f chain (subst (λ (e : RunView). IsAtChain words old.held e chain) same stands)
-      (unbound_owes laws c chain old.held (λ g. IsInterruption words c old new g) tt f (subst (λ (e : RunView). BindCause e.bindings (devices_of chain) f) same why))
+      read_so f chain (subst (λ (e : RunView). IsAtChain call old.held e chain) same stands)
+      (unbound_owes laws c chain old.held (λ g. IsInterruption call c old new g) tt f (subst (λ (e : RunView). BindCause e.bindings (devices_of chain) f) same why))
   refusal_so f (script_refused d chain bound stands why) =
       let same = same_command d stands.before.words_are in
-      bound_so f chain bound (subst (λ (e : RunView). IsAtScript words old.held e chain bound) same stands)
-      (script_owes old.held (inputs_of chain bound) (λ g. IsInterruption words c old new g) tt f (old.held c.script) (old.failed_reads c.script) (new.failed_reads c.script) (λ rose. rose)
+      bound_so f chain bound (subst (λ (e : RunView). IsAtScript call old.held e chain bound) same stands)
+      (script_owes old.held (inputs_of chain bound) (λ g. IsInterruption call c old new g) tt f (old.held c.script) (old.failed_reads c.script) (new.failed_reads c.script) (λ rose. rose)
       (subst (λ (e : RunView). ScriptFault (old.held e.script) (old.failed_reads e.script) (new.failed_reads e.script) f) same why))
 
-  pub command_so : (f : Fault) (order picks : List ℕ) → IsRun words old new order picks f → Or f
-  command_so f order picks (refused why u) = refusal_so f why
-  command_so f order picks (ran d chain bound stands run) =
+  pub command_so : (f : Fault) (account : Account) → IsRun call old new account f → Or f
+  command_so f account (refused why u) = refusal_so f why
+  command_so f account (ran d chain bound stands run) =
       let same = same_command d stands.before.before.words_are in
-      let here : IsAtCaptures words old.held c chain bound = subst (λ (e : RunView). IsAtCaptures words old.held e chain bound) same stands in
-      idle_so f chain bound here (run_so f order picks chain bound here run)
+      let here : IsAtCaptures call old.held c chain bound = subst (λ (e : RunView). IsAtCaptures call old.held e chain bound) same stands in
+      idle_so f chain bound here (run_so f account chain bound here run)
 
-module _ (laws : OneAnswer) (words : List (List ℕ)) (old new : State) where
-  usage_so : (f : Fault) (order picks : List ℕ) (n : ℕ) → IsFirstAtFault words n → IsRun words old new order picks f → (f ≡ UsageWord n) ⊎ (f ≡ Memory)
-  usage_so f order picks n first (refused (no_memory memory) u) = inr memory
-  usage_so f order picks n first (refused (no_command m other is) u) = inl (is ∙ ap UsageWord (laws.first words m n other first))
-  usage_so f order picks n first (refused (chain_refused c is why) u) = absurd (laws.not_both words n c first is)
-  usage_so f order picks n first (refused (not_bound c chain stands why) u) = absurd (laws.not_both words n c first stands.words_are)
-  usage_so f order picks n first (refused (script_refused c chain bound stands why) u) = absurd (laws.not_both words n c first stands.before.words_are)
-  usage_so f order picks n first (ran c chain bound stands run) = absurd (laws.not_both words n c first stands.before.before.words_are)
+module _ (laws : OneAnswer) (call : Call) (old new : State) where
+  usage_so : (f : Fault) (account : Account) (n : ℕ) → IsFirstAtFault call.policies call.words n → IsRun call old new account f → (f ≡ UsageWord n) ⊎ (f ≡ Memory)
+  usage_so f account n first (refused (no_memory memory) u) = inr memory
+  usage_so f account n first (refused (no_command m other is) u) = inl (is ∙ ap UsageWord (laws.first call m n other first))
+  usage_so f account n first (refused (chain_refused c is why) u) = absurd (laws.not_both call n c first is)
+  usage_so f account n first (refused (not_bound c chain stands why) u) = absurd (laws.not_both call n c first stands.words_are)
+  usage_so f account n first (refused (script_refused c chain bound stands why) u) = absurd (laws.not_both call n c first stands.before.words_are)
+  usage_so f account n first (ran c chain bound stands run) = absurd (laws.not_both call n c first stands.before.before.words_are)
 
-  pub exact : (f : Fault) (order picks : List ℕ) → IsRun words old new order picks f → IsExact words old new f
-  exact f order picks run = record {
-    usage = λ n first. usage_so f order picks n first run;
-    command = λ c is. command_so laws words old new c is f order picks run;
+  pub exact : (f : Fault) (account : Account) → IsRun call old new account f → IsExact call old new f
+  exact f account run = record {
+    usage = λ n first. usage_so f account n first run;
+    command = λ c is. command_so laws call old new c is f account run;
   }
 
   -- without a failed file there is no interruption but want of memory
-  none_rose : (c : RunView) → NoneFailed old new → (f : Fault) → IsInterruption words c old new f → f ≡ Memory
+  none_rose : (c : RunView) → NoneFailed old new → (f : Fault) → IsInterruption call c old new f → f ≡ Memory
   none_rose c none (Read file.Chain) h = absurd (none.reads c.chain h)
   none_rose c none (Read file.Script) h = absurd (none.reads c.script h)
   none_rose c none (Read (file.Capture device)) h = absurd (none.reads h.3.name h.3.rose)
@@ -288,7 +289,7 @@ module _ (laws : OneAnswer) (words : List (List ℕ)) (old new : State) where
   none_rose c none Memory h = refl
   none_rose c none f h = absurd h
 
-  pub complete : (f : Fault) → IsExact words old new f → NoneFailed old new → IsComplete words old.held f
+  pub complete : (f : Fault) → IsExact call old new f → NoneFailed old new → IsComplete call old.held f
   complete f exact none = record {
     usage = exact.usage;
     command = λ c is. elim (exact.command c is) [
@@ -299,22 +300,22 @@ module _ (laws : OneAnswer) (words : List (List ℕ)) (old new : State) where
 
 -- ---- runs that are done, and runs that end early
 
-refusal_not_done : (words : List (List ℕ)) (old new : State) → IsRefusal words old new Done → ⊥
-refusal_not_done words old new (no_memory is) = cc
-refusal_not_done words old new (no_command n first is) = cc
-refusal_not_done words old new (chain_refused c is why) = why
-refusal_not_done words old new (not_bound c chain stands why) = why
-refusal_not_done words old new (script_refused c chain bound stands why) = why
+refusal_not_done : (call : Call) (old new : State) → IsRefusal call old new Done → ⊥
+refusal_not_done call old new (no_memory is) = cc
+refusal_not_done call old new (no_command n first is) = cc
+refusal_not_done call old new (chain_refused c is why) = why
+refusal_not_done call old new (not_bound c chain stands why) = why
+refusal_not_done call old new (script_refused c chain bound stands why) = why
 
 end_done : (end : MergedEnd) → Done ≡ fault_of end → end ≡ merges.Done
 end_done merges.Done is = refl
 end_done (merges.Fault device why) is = cc
 end_done (merges.Frames count) is = cc
 
-done_so : (words : List (List ℕ)) (old new : State) (order picks : List ℕ) → IsRun words old new order picks Done → IsFinished words old new order picks
-done_so words old new order picks (refused why u) = absurd (refusal_not_done words old new why)
-done_so words old new order picks (ran c chain bound stands (capture_refused why u)) = absurd why
-done_so words old new order picks (ran c chain bound stands (ended frames fates end begin merged sound is run wrote)) = record {
+done_so : (call : Call) (old new : State) (account : Account) → IsRun call old new account Done → IsFinished call old new account
+done_so call old new account (refused why u) = absurd (refusal_not_done call old new why)
+done_so call old new account (ran c chain bound stands (capture_refused why u)) = absurd why
+done_so call old new account (ran c chain bound stands (ended frames fates end begin merged sound is run classes wrote)) = record {
   command = c;
   chain = chain;
   bound = bound;
@@ -323,13 +324,14 @@ done_so words old new order picks (ran c chain bound stands (ended frames fates 
   merged = subst (λ (e : MergedEnd). IfSome (captures_in old.held (inputs_of chain bound)) (λ cs. merge_of cs ≡ record { frames = frames; end = e })) (end_done end is) merged;
   fates = fates;
   run = run;
+  classes = classes;
   wrote = wrote;
 }
-done_so words old new order picks (ran c chain bound stands (input_failed frames fates device begin front is rose run wrote)) = cc
-done_so words old new order picks (ran c chain bound stands (broken_off frames fates begin front why run wrote)) = absurd why
+done_so call old new account (ran c chain bound stands (input_failed frames fates device begin front is rose run classes wrote)) = cc
+done_so call old new account (ran c chain bound stands (broken_off frames fates begin front why run classes wrote)) = absurd why
 
-pub finished : (words : List (List ℕ)) (old new : State) (order picks : List ℕ) (f : Fault) → IsRun words old new order picks f → f ≡ Done → IsFinished words old new order picks
-finished words old new order picks f run done = done_so words old new order picks (subst (λ g. IsRun words old new order picks g) done run)
+pub finished : (call : Call) (old new : State) (account : Account) (f : Fault) → IsRun call old new account f → f ≡ Done → IsFinished call old new account
+finished call old new account f run done = done_so call old new account (subst (λ g. IsRun call old new account g) done run)
 
 record_is_late : (why : PcapFault) (device : ℕ) → IsEnd (merges.Fault device why) → is_header_fault (Some why) ≡ true → ⊥
 record_is_late (BadRecord offset) device sound early = cc
@@ -346,14 +348,13 @@ late_output outputs old new (Write (file.Output device)) why early = early
 late_output outputs old new Memory why early = early
 late_output outputs old new f why early = why
 
-pub early : (words : List (List ℕ)) (old new : State) (order picks : List ℕ) (f : Fault) → IsRun words old new order picks f → IsEarly f → IsUntouched old new order picks
-early words old new order picks f (refused why u) e = u
-early words old new order picks f (ran c chain bound stands (capture_refused why u)) e = u
-early words old new order picks f (ran c chain bound stands (ended frames fates end begin merged sound is run wrote)) e = absurd (late_end end sound (subst IsEarly is e))
-early words old new order picks f (ran c chain bound stands (input_failed frames fates device begin front is rose run wrote)) e = absurd (subst IsEarly is e)
-early words old new order picks f (ran c chain bound stands (broken_off frames fates begin front why run wrote)) e = absurd (late_output (outputs_of bound) old.failed_writes new.failed_writes f why e)
+pub early : (call : Call) (old new : State) (account : Account) (f : Fault) → IsRun call old new account f → IsEarly f → IsUntouched old new account
+early call old new account f (refused why u) e = u
+early call old new account f (ran c chain bound stands (capture_refused why u)) e = u
+early call old new account f (ran c chain bound stands (ended frames fates end begin merged sound is run classes wrote)) e = absurd (late_end end sound (subst IsEarly is e))
+early call old new account f (ran c chain bound stands (input_failed frames fates device begin front is rose run classes wrote)) e = absurd (subst IsEarly is e)
+early call old new account f (ran c chain bound stands (broken_off frames fates begin front why run classes wrote)) e = absurd (late_output (outputs_of bound) old.failed_writes new.failed_writes f why e)
 
-pub moved : (words : List (List ℕ)) (old new : State) (order order' picks picks' : List ℕ) (f f' : Fault) → f' ≡ f → order' ≡ order → picks' ≡ picks → IsRun words old new order picks f → IsRun words old new order' picks' f'
-moved words old new order order' picks picks' f f' same same_order same_picks run =
-    subst (λ g. IsRun words old new order' picks' g) (sym same)
-    (subst (λ (o : List ℕ). IsRun words old new o picks' f) (sym same_order) (subst (λ (p : List ℕ). IsRun words old new order p f) (sym same_picks) run))
+pub moved : (call : Call) (old new : State) (account account' : Account) (f f' : Fault) → f' ≡ f → account' ≡ account → IsRun call old new account f → IsRun call old new account' f'
+moved call old new account account' f f' same same_account run =
+    subst (λ g. IsRun call old new account' g) (sym same) (subst (λ (a : Account). IsRun call old new a f) (sym same_account) run)

@@ -7,7 +7,8 @@ use Rattle.mt_io.specs.Laws.{then_rose}
 use Rattle.mt_command.specs.Parts.{RunView}
 use Rattle.metron.specs.Inputs.{Told}
 use Rattle.metron.specs.Serving.{Held, Outputs}
-use Rattle.metron.specs.Causes.{State, IsUntouched, IsRun}
+use Rattle.metron.specs.Outcome.{Account}
+use Rattle.metron.specs.Causes.{Call, State, IsUntouched, IsRun}
 use Rattle.metron.specs.Laws.{OneAnswer}
 use Rattle.metron.specs.Due.{IsInterruption, IsExact, IsComplete, NoneFailed, IsFinished, IsEarly}
 use Rattle.metron.specs.Finish.{AreOutputs, FinishFault, UnwrittenCause, NoneFell, IsServed}
@@ -28,9 +29,9 @@ none_there : {X : Type 0} (xs : List (Option X)) (index : ℕ) (x : X) → xs �
 none_there xs index x empty at = absurd (none-some (Some x) (ap (λ l. slice_get l index) (sym empty) ∙ at))
 
 -- the file is that of a device of the command, or it is not known
-pub finish_fault : (words : List (List ℕ)) (old new : State) (c : RunView) (fault : Fault) (outputs : Outputs) (unwritten : Told)
-    → AreOutputs words old.held c outputs → IsSomeAnd unwritten (λ name. Rose (old.failed_writes name) (new.failed_writes name)) → UnwrittenCause outputs unwritten fault → FinishFault words old new c fault
-finish_fault words old new c (Write (file.Output device)) outputs unwritten are rose why = elim are [
+pub finish_fault : (call : Call) (old new : State) (c : RunView) (fault : Fault) (outputs : Outputs) (unwritten : Told)
+    → AreOutputs call old.held c outputs → IsSomeAnd unwritten (λ name. Rose (old.failed_writes name) (new.failed_writes name)) → UnwrittenCause outputs unwritten fault → FinishFault call old new c fault
+finish_fault call old new c (Write (file.Output device)) outputs unwritten are rose why = elim are [
   | inl empty ↦ absurd (none_there outputs why.0 why.1 empty why.3)
   | inr is ↦ (
     is.0,
@@ -45,8 +46,8 @@ finish_fault words old new c (Write (file.Output device)) outputs unwritten are 
     },
   )
 ]
-finish_fault words old new c Memory outputs unwritten are rose why = tt
-finish_fault words old new c fault outputs unwritten are rose why = absurd why
+finish_fault call old new c Memory outputs unwritten are rose why = tt
+finish_fault call old new c fault outputs unwritten are rose why = absurd why
 
 -- what a failed finish says of the counts, from before the run on
 pub rose_since : (first : Option (List ℕ)) (old middle last new : List ℕ → ℕ) → NeverFell old middle → IsSame last new
@@ -60,32 +61,32 @@ same_then_fell old begun new same kept name = subst (λ n. n ≤ new name) (same
 pub fell_then_same : (old middle new : List ℕ → ℕ) → NeverFell old middle → IsSame middle new → NeverFell old new
 fell_then_same old middle new kept same name = subst (λ n. old name ≤ n) (sym (same name)) (kept name)
 
-pub outputs_from : (words : List (List ℕ)) (held begun : Held) (c : RunView) (outputs : Outputs) → IsSame held begun → AreOutputs words begun c outputs → AreOutputs words held c outputs
-outputs_from words held begun c outputs same are = subst (λ (h : Held). AreOutputs words h c outputs) (λ i n. same n i) are
+pub outputs_from : (call : Call) (held begun : Held) (c : RunView) (outputs : Outputs) → IsSame held begun → AreOutputs call begun c outputs → AreOutputs call held c outputs
+outputs_from call held begun c outputs same are = subst (λ (h : Held). AreOutputs call h c outputs) (λ i n. same n i) are
 
 -- ---- what follows
 
-finish_interrupts : (words : List (List ℕ)) (old new : State) (c : RunView) (fault : Fault) → FinishFault words old new c fault → IsInterruption words c old new fault
-finish_interrupts words old new c (Write (file.Output device)) why = why
-finish_interrupts words old new c Memory why = tt
-finish_interrupts words old new c fault why = absurd why
+finish_interrupts : (call : Call) (old new : State) (c : RunView) (fault : Fault) → FinishFault call old new c fault → IsInterruption call c old new fault
+finish_interrupts call old new c (Write (file.Output device)) why = why
+finish_interrupts call old new c Memory why = tt
+finish_interrupts call old new c fault why = absurd why
 
-finish_late : (words : List (List ℕ)) (old new : State) (c : RunView) (fault : Fault) → FinishFault words old new c fault → IsEarly fault → ⊥
-finish_late words old new c (Write (file.Output device)) why early = early
-finish_late words old new c Memory why early = early
-finish_late words old new c fault why early = why
+finish_late : (call : Call) (old new : State) (c : RunView) (fault : Fault) → FinishFault call old new c fault → IsEarly fault → ⊥
+finish_late call old new c (Write (file.Output device)) why early = early
+finish_late call old new c Memory why early = early
+finish_late call old new c fault why early = why
 
 -- the run as of the state at the end, but for what is held
-since : (words : List (List ℕ)) (old told new : State) (order picks : List ℕ) (fault : Fault) → IsRun words old told order picks fault → IsSame told.written new.written → NoneFell told new
-    → IsRun words old (record new { held = told.held }) order picks fault
-since words old told new order picks fault run written fell = later words old told (record new { held = told.held }) order picks fault (λ name. refl) written fell.reads fell.writes run
+since : (call : Call) (old told new : State) (account : Account) (fault : Fault) → IsRun call old told account fault → IsSame told.written new.written → NoneFell told new
+    → IsRun call old (record new { held = told.held }) account fault
+since call old told new account fault run written fell = later call old told (record new { held = told.held }) account fault (λ name. refl) written fell.reads fell.writes run
 
 -- what is told as held at the end matters to none of this
-exact_still : (words : List (List ℕ)) (old new : State) (held : Held) (fault : Fault) → IsExact words old (record new { held = held }) fault → IsExact words old new fault
-exact_still words old new held fault e = record { usage = e.usage; command = e.command }
+exact_still : (call : Call) (old new : State) (held : Held) (fault : Fault) → IsExact call old (record new { held = held }) fault → IsExact call old new fault
+exact_still call old new held fault e = record { usage = e.usage; command = e.command }
 
-finished_still : (words : List (List ℕ)) (old new : State) (held : Held) (order picks : List ℕ) → IsFinished words old (record new { held = held }) order picks → IsFinished words old new order picks
-finished_still words old new held order picks f = record {
+finished_still : (call : Call) (old new : State) (held : Held) (account : Account) → IsFinished call old (record new { held = held }) account → IsFinished call old new account
+finished_still call old new held account f = record {
   command = f.command;
   chain = f.chain;
   bound = f.bound;
@@ -94,33 +95,32 @@ finished_still words old new held order picks f = record {
   merged = f.merged;
   fates = f.fates;
   run = f.run;
+  classes = f.classes;
   wrote = record { written = f.wrote.written; others = f.wrote.others };
 }
 
-untouched_still : (old new : State) (held : Held) (order picks : List ℕ) → IsUntouched old (record new { held = held }) order picks → IsUntouched old new order picks
-untouched_still old new held order picks u = record { written = u.written; none_served = u.none_served; none_picked = u.none_picked }
+untouched_still : (old new : State) (held : Held) (account : Account) → IsUntouched old (record new { held = held }) account → IsUntouched old new account
+untouched_still old new held account u = record { written = u.written; none_served = u.none_served }
 
-module _ (laws : OneAnswer) (words : List (List ℕ)) (old new : State) (order picks : List ℕ) (fault : Fault) where
-  pub exact : IsServed words old new order picks fault → IsExact words old new fault
-  exact (all_written told run written fell) = exact_still words old new told.held fault (exactly.exact laws words old (record new { held = told.held }) fault order picks (since words old told new order picks fault run written fell))
+module _ (laws : OneAnswer) (call : Call) (old new : State) (account : Account) (fault : Fault) where
+  pub exact : IsServed call old new account fault → IsExact call old new fault
+  exact (all_written told run written fell) = exact_still call old new told.held fault (exactly.exact laws call old (record new { held = told.held }) fault account (since call old told new account fault run written fell))
   exact (some_pending c told ran is run pending fell why) = record {
-    usage = λ n first. absurd (laws.not_both words n c first is);
-    command = λ d other. inr (subst (λ (e : RunView). IsInterruption words e old new fault) (laws.command words c d is other) (finish_interrupts words old new c fault why));
+    usage = λ n first. absurd (laws.not_both call n c first is);
+    command = λ d other. inr (subst (λ (e : RunView). IsInterruption call e old new fault) (laws.command call c d is other) (finish_interrupts call old new c fault why));
   }
 
-  pub complete : IsServed words old new order picks fault → NoneFailed old new → IsComplete words old.held fault
-  complete served none = exactly.complete laws words old new fault (exact served) none
+  pub complete : IsServed call old new account fault → NoneFailed old new → IsComplete call old.held fault
+  complete served none = exactly.complete laws call old new fault (exact served) none
 
-pub finished : (words : List (List ℕ)) (old new : State) (order picks : List ℕ) (fault : Fault) → IsServed words old new order picks fault → fault ≡ Done → IsFinished words old new order picks
-finished words old new order picks fault (all_written told run written fell) done = finished_still words old new told.held order picks (exactly.finished words old (record new { held = told.held }) order picks fault (since words old told new order picks fault run written fell) done)
-finished words old new order picks fault (some_pending c told ran is run pending fell why) done = absurd (subst (λ f. FinishFault words old new c f) done why)
+pub finished : (call : Call) (old new : State) (account : Account) (fault : Fault) → IsServed call old new account fault → fault ≡ Done → IsFinished call old new account
+finished call old new account fault (all_written told run written fell) done = finished_still call old new told.held account (exactly.finished call old (record new { held = told.held }) account fault (since call old told new account fault run written fell) done)
+finished call old new account fault (some_pending c told ran is run pending fell why) done = absurd (subst (λ f. FinishFault call old new c f) done why)
 
-pub early : (words : List (List ℕ)) (old new : State) (order picks : List ℕ) (fault : Fault) → IsServed words old new order picks fault → IsEarly fault → IsUntouched old new order picks
-early words old new order picks fault (all_written told run written fell) e = untouched_still old new told.held order picks (exactly.early words old (record new { held = told.held }) order picks fault (since words old told new order picks fault run written fell) e)
-early words old new order picks fault (some_pending c told ran is run pending fell why) e = absurd (finish_late words old new c fault why e)
+pub early : (call : Call) (old new : State) (account : Account) (fault : Fault) → IsServed call old new account fault → IsEarly fault → IsUntouched old new account
+early call old new account fault (all_written told run written fell) e = untouched_still old new told.held account (exactly.early call old (record new { held = told.held }) account fault (since call old told new account fault run written fell) e)
+early call old new account fault (some_pending c told ran is run pending fell why) e = absurd (finish_late call old new c fault why e)
 
-pub moved : (words : List (List ℕ)) (old new : State) (order order' picks picks' : List ℕ) (fault fault' : Fault) → fault' ≡ fault → order' ≡ order → picks' ≡ picks
-    → IsServed words old new order picks fault → IsServed words old new order' picks' fault'
-moved words old new order order' picks picks' fault fault' same same_order same_picks run =
-    subst (λ f. IsServed words old new order' picks' f) (sym same)
-    (subst (λ (o : List ℕ). IsServed words old new o picks' fault) (sym same_order) (subst (λ (p : List ℕ). IsServed words old new order p fault) (sym same_picks) run))
+pub moved : (call : Call) (old new : State) (account account' : Account) (fault fault' : Fault) → fault' ≡ fault → account' ≡ account → IsServed call old new account fault → IsServed call old new account' fault'
+moved call old new account account' fault fault' same same_account run =
+    subst (λ f. IsServed call old new account' f) (sym same) (subst (λ (a : Account). IsServed call old new a fault) (sym same_account) run)

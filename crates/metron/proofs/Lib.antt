@@ -1,5 +1,7 @@
 mod Outputs
+mod Counted
 mod Served
+mod Turning
 mod Frames
 mod Files
 mod Begun
@@ -10,3 +12,4 @@ mod Exact
 mod Finished
 mod Commands
 mod Names
+mod Known

@@ -18,7 +18,8 @@ use Rattle.mt_chain.specs.Fates.{device_text}
 use Rattle.mt_command.specs.Parts.{BoundView}
 use Rattle.metron.specs.Inputs.{Told, inputs_of, outputs_of, BeginsWell, BeginWell, CaptureFault, ScriptFault, IsChainFault, text_limit, IsBusy}
 use Rattle.metron.specs.Serving.{Held, Outputs, AllGain, AllGainFront, HasInputRisen}
-use Rattle.metron.specs.Causes.{State, HasWritten, IsRefusal, IsRunOf, IsRun}
+use Rattle.metron.specs.Outcome.{Account}
+use Rattle.metron.specs.Causes.{Call, State, HasWritten, IsRefusal, IsRunOf, IsRun}
 use Rattle.metron.specs.Causes.IsRefusal.{no_memory, no_command, chain_refused, not_bound, script_refused}
 use Rattle.metron.specs.Causes.IsRunOf.{capture_refused, ended, input_failed, broken_off}
 use Rattle.metron.specs.Causes.IsRun.{refused, ran}
@@ -74,7 +75,7 @@ capture_between names held held' old old' new new' fault same before after h = h
 
 -- ---- a run through a chain
 
-module _ (chain : ChainState) (bound : List BoundView) (s0 s1 s2 s3 : State) (order : List ℕ) (picks : List ℕ) (fault : Fault)
+module _ (chain : ChainState) (bound : List BoundView) (s0 s1 s2 s3 : State) (account : Account) (fault : Fault)
     (held : AreSame (inputs_of chain bound) s0.held s1.held) (held_behind : IsSame s2.held s3.held) (written_before : IsSame s0.written s1.written) (written_behind : IsSame s2.written s3.written)
     (reads_before : NeverFell s0.failed_reads s1.failed_reads) (reads_behind : NeverFell s2.failed_reads s3.failed_reads)
     (writes_before : NeverFell s0.failed_writes s1.failed_writes) (writes_behind : NeverFell s2.failed_writes s3.failed_writes) where
@@ -117,21 +118,21 @@ module _ (chain : ChainState) (bound : List BoundView) (s0 s1 s2 s3 : State) (or
         (elsewhere_same (outputs_of bound) s2.written s3.written written_behind);
   }
 
-  pub widened : IsRunOf chain bound s1 s2 order picks fault → IsRunOf chain bound s0 s3 order picks fault
+  pub widened : IsRunOf chain bound s1 s2 account fault → IsRunOf chain bound s0 s3 account fault
   widened (capture_refused why u) =
       capture_refused (capture_between (inputs_of chain bound) s0.held s1.held s0.failed_reads s1.failed_reads s2.failed_reads s3.failed_reads fault held reads_before reads_behind why)
-      (record { written = same_twice _ _ _ written_before (same_twice _ _ _ u.written written_behind); none_served = u.none_served; none_picked = u.none_picked })
-  widened (ended frames fates end begin merged sound is run wrote) =
+      (record { written = same_twice _ _ _ written_before (same_twice _ _ _ u.written written_behind); none_served = u.none_served })
+  widened (ended frames fates end begin merged sound is run classes wrote) =
       ended frames fates end (begin_same (inputs_of chain bound) s0.held s1.held (length (inputs_of chain bound)) held begin)
-      (subst (λ (o : Option (List Capture)). IfSome o (λ cs. merge_of cs ≡ record { frames = frames; end = end })) told merged) sound is run (wrote_all fates wrote)
-  widened (input_failed frames fates device begin cut is rose run wrote) =
+      (subst (λ (o : Option (List Capture)). IfSome o (λ cs. merge_of cs ≡ record { frames = frames; end = end })) told merged) sound is run classes (wrote_all fates wrote)
+  widened (input_failed frames fates device begin cut is rose run classes wrote) =
       input_failed frames fates device (begin_same (inputs_of chain bound) s0.held s1.held (length (inputs_of chain bound)) held begin)
       (cut_between frames device cut) is
-      (risen_between (inputs_of chain bound) device s0.failed_reads s1.failed_reads s2.failed_reads s3.failed_reads reads_before reads_behind rose) run (wrote_all fates wrote)
-  widened (broken_off frames fates begin front why run wrote) =
+      (risen_between (inputs_of chain bound) device s0.failed_reads s1.failed_reads s2.failed_reads s3.failed_reads reads_before reads_behind rose) run classes (wrote_all fates wrote)
+  widened (broken_off frames fates begin front why run classes wrote) =
       broken_off frames fates (begin_same (inputs_of chain bound) s0.held s1.held (length (inputs_of chain bound)) held begin)
       (subst (λ (o : Option (List Capture)). IfSome o (λ cs. (rest : List Stamped) × ((merge_of cs).frames ≡ frames ++ rest))) told front)
-      (fault_between (outputs_of bound) s0.failed_writes s1.failed_writes s2.failed_writes s3.failed_writes fault writes_before writes_behind why) run (wrote_front fates wrote)
+      (fault_between (outputs_of bound) s0.failed_writes s1.failed_writes s2.failed_writes s3.failed_writes fault writes_before writes_behind why) run classes (wrote_front fates wrote)
 
 -- ---- texts that are read later
 
@@ -148,9 +149,9 @@ chain_later held before after after' fault le h = h
 
 -- ---- a whole run
 
-module _ (words : List (List ℕ)) (old middle new : State) (order picks : List ℕ) (fault : Fault)
+module _ (call : Call) (old middle new : State) (account : Account) (fault : Fault)
     (held : IsSame middle.held new.held) (written : IsSame middle.written new.written) (reads : NeverFell middle.failed_reads new.failed_reads) (writes : NeverFell middle.failed_writes new.failed_writes) where
-  refusal_later : IsRefusal words old middle fault → IsRefusal words old new fault
+  refusal_later : IsRefusal call old middle fault → IsRefusal call old new fault
   refusal_later (no_memory is) = no_memory is
   refusal_later (no_command n first is) = no_command n first is
   refusal_later (chain_refused c is why) = chain_refused c is (chain_later _ _ _ _ fault (reads c.chain) why)
@@ -158,11 +159,11 @@ module _ (words : List (List ℕ)) (old middle new : State) (order picks : List 
   refusal_later (script_refused c chain bound stands why) = script_refused c chain bound stands (script_between _ _ _ _ _ _ fault refl (le_refl (old.failed_reads c.script)) (reads c.script) why)
 
   -- nothing more was told as written, and no count fell
-  pub later : IsRun words old middle order picks fault → IsRun words old new order picks fault
-  later (refused why u) = refused (refusal_later why) (record { written = same_twice _ _ _ u.written written; none_served = u.none_served; none_picked = u.none_picked })
+  pub later : IsRun call old middle account fault → IsRun call old new account fault
+  later (refused why u) = refused (refusal_later why) (record { written = same_twice _ _ _ u.written written; none_served = u.none_served })
   later (ran c chain bound stands run) =
       ran c chain bound stands
-      (widened chain bound old old middle new order picks fault (λ k name at. refl) held (λ name. refl) written (λ name. le_refl (old.failed_reads name)) reads (λ name. le_refl (old.failed_writes name)) writes run)
+      (widened chain bound old old middle new account fault (λ k name at. refl) held (λ name. refl) written (λ name. le_refl (old.failed_reads name)) reads (λ name. le_refl (old.failed_writes name)) writes run)
 
 -- what is told of two states is the same
 pub record IsSameState (old new : State) : Type 0 where
@@ -179,5 +180,5 @@ same_state old new same = λ i. record {
   failed_writes = λ n. same.failed_writes n i;
 }
 
-pub from_same : (words : List (List ℕ)) (old begun new : State) (order picks : List ℕ) (fault : Fault) → IsSameState old begun → IsRun words begun new order picks fault → IsRun words old new order picks fault
-from_same words old begun new order picks fault same run = subst (λ (s : State). IsRun words s new order picks fault) (same_state old begun same) run
+pub from_same : (call : Call) (old begun new : State) (account : Account) (fault : Fault) → IsSameState old begun → IsRun call begun new account fault → IsRun call old new account fault
+from_same call old begun new account fault same run = subst (λ (s : State). IsRun call s new account fault) (same_state old begun same) run

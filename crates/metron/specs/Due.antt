@@ -18,10 +18,11 @@ use Rattle.mt_command.specs.Command.{IsCommand, IsFirstAtFault}
 use Rattle.mt_command.specs.Devices.{IsFirstUnfit, IsFirstUnbound, AreBound}
 use Rattle.metron.specs.Inputs.{ReadsAs, text_limit, devices_of, inputs_of, outputs_of}
 use Rattle.metron.specs.Serving.{Held, AllGain, HasRisen, HasInputRisen, fault_of}
-use Rattle.metron.specs.Causes.{State, IsAtScript, IsAtCaptures, HasRun, HasWritten}
+use Rattle.metron.specs.Causes.{Call, State, IsAtScript, IsAtCaptures, HasRun, HasWritten, IsClassCount}
+use Rattle.metron.specs.Outcome.{Account}
 use Rattle.metron.specs.declared.outcome.FileId.TheVariants as file
 use Rattle.metron.specs.declared.outcome.Fault.{Fault}
-use Rattle.metron.specs.declared.outcome.Fault.TheVariants.{Done, UsageWord, Unbound, Unbuilt, TooLong, Click, Script, Capture, Read, Write, Memory}
+use Rattle.metron.specs.declared.outcome.Fault.TheVariants.{Done, UsageWord, Unbound, Unbuilt, TooLong, Click, Classes, Script, Capture, Read, Write, Memory}
 use Rattle.metron.specs.declared.outcome.Fault.TheVariants as fault
 
 -- ---- captures
@@ -85,32 +86,32 @@ IsOwed command held fault = IfSome (held command.chain) (λ text. ChainTextOwes 
 -- ---- what may come in its place
 
 -- the file that a command binds to a device, as its capture or to be written
-abbrev pub InputRose : List (List ℕ) → RunView → State → State → ℕ → Type 0
-InputRose words command old new device =
-    (chain : ChainState) × (bound : List BoundView) × IsAtScript words old.held command chain bound × HasInputRisen (inputs_of chain bound) device old.failed_reads new.failed_reads
+abbrev pub InputRose : Call → RunView → State → State → ℕ → Type 0
+InputRose call command old new device =
+    (chain : ChainState) × (bound : List BoundView) × IsAtScript call old.held command chain bound × HasInputRisen (inputs_of chain bound) device old.failed_reads new.failed_reads
 
-abbrev pub OutputRose : List (List ℕ) → RunView → State → State → ℕ → Type 0
-OutputRose words command old new device =
-    (chain : ChainState) × (bound : List BoundView) × IsAtScript words old.held command chain bound × HasRisen (outputs_of bound) device old.failed_writes new.failed_writes
+abbrev pub OutputRose : Call → RunView → State → State → ℕ → Type 0
+OutputRose call command old new device =
+    (chain : ChainState) × (bound : List BoundView) × IsAtScript call old.held command chain bound × HasRisen (outputs_of bound) device old.failed_writes new.failed_writes
 
 -- a file of the command failed in this call, or there was no memory
-abbrev pub IsInterruption : List (List ℕ) → RunView → State → State → Fault → Type 0
-IsInterruption words c old new (Read file.Chain) = Rose (old.failed_reads c.chain) (new.failed_reads c.chain)
-IsInterruption words c old new (Read file.Script) = Rose (old.failed_reads c.script) (new.failed_reads c.script)
-IsInterruption words c old new (Read (file.Capture device)) = InputRose words c old new device
-IsInterruption words c old new (Write (file.Output device)) = OutputRose words c old new device
-IsInterruption words c old new Memory = ⊤
-IsInterruption words c old new fault = ⊥
+abbrev pub IsInterruption : Call → RunView → State → State → Fault → Type 0
+IsInterruption call c old new (Read file.Chain) = Rose (old.failed_reads c.chain) (new.failed_reads c.chain)
+IsInterruption call c old new (Read file.Script) = Rose (old.failed_reads c.script) (new.failed_reads c.script)
+IsInterruption call c old new (Read (file.Capture device)) = InputRose call c old new device
+IsInterruption call c old new (Write (file.Output device)) = OutputRose call c old new device
+IsInterruption call c old new Memory = ⊤
+IsInterruption call c old new fault = ⊥
 
 -- The answer is the one that is due, unless a file of the command failed or there was no memory.
-pub record IsExact (words : List (List ℕ)) (old new : State) (fault : Fault) : Type 0 where
-  pub usage : (n : ℕ) → IsFirstAtFault words n → (fault ≡ UsageWord n) ⊎ (fault ≡ Memory)
-  pub command : (c : RunView) → IsCommand words c → IsOwed c old.held fault ⊎ IsInterruption words c old new fault
+pub record IsExact (call : Call) (old new : State) (fault : Fault) : Type 0 where
+  pub usage : (n : ℕ) → IsFirstAtFault call.policies call.words n → (fault ≡ UsageWord n) ⊎ (fault ≡ Memory)
+  pub command : (c : RunView) → IsCommand call.policies call.words c → IsOwed c old.held fault ⊎ IsInterruption call c old new fault
 
 -- Where no file failed, the answer is the one that is due, or there was no memory.
-pub record IsComplete (words : List (List ℕ)) (held : Held) (fault : Fault) : Type 0 where
-  pub usage : (n : ℕ) → IsFirstAtFault words n → (fault ≡ UsageWord n) ⊎ (fault ≡ Memory)
-  pub command : (c : RunView) → IsCommand words c → IsOwed c held fault ⊎ (fault ≡ Memory)
+pub record IsComplete (call : Call) (held : Held) (fault : Fault) : Type 0 where
+  pub usage : (n : ℕ) → IsFirstAtFault call.policies call.words n → (fault ≡ UsageWord n) ⊎ (fault ≡ Memory)
+  pub command : (c : RunView) → IsCommand call.policies call.words c → IsOwed c held fault ⊎ (fault ≡ Memory)
 
 -- no count of a file rose
 pub record NoneFailed (old new : State) : Type 0 where
@@ -121,15 +122,16 @@ pub record NoneFailed (old new : State) : Type 0 where
 
 -- What was written is, device by device and in order, what the chain, run element by element with the ports that
 -- were picked, emits for all frames of the captures, in an order that keeps the order of each flow.
-pub record IsFinished (words : List (List ℕ)) (old new : State) (order picks : List ℕ) : Type 0 where
+pub record IsFinished (call : Call) (old new : State) (account : Account) : Type 0 where
   pub command : RunView
   pub chain : ChainState
   pub bound : List BoundView
-  pub stands : IsAtCaptures words old.held command chain bound
+  pub stands : IsAtCaptures call old.held command chain bound
   pub frames : List Stamped
   pub merged : IsWholeMerge (inputs_of chain bound) old.held frames merges.Done
   pub fates : List Fate
-  pub run : HasRun chain frames order picks fates
+  pub run : HasRun chain frames account fates
+  pub classes : IsClassCount chain account.classes
   pub wrote : HasWritten AllGain bound old new fates
 
 -- faults that are met before anything is written
@@ -140,6 +142,7 @@ IsEarly (Unbuilt file) = ⊤
 IsEarly (TooLong file) = ⊤
 IsEarly (Click told) = ⊤
 IsEarly (fault.Chain told) = ⊤
+IsEarly (Classes count) = ⊤
 IsEarly (Script told) = ⊤
 IsEarly (Read file.Chain) = ⊤
 IsEarly (Read file.Script) = ⊤

@@ -1,7 +1,7 @@
 -- What the files of a command have to hold. What a file holds is `None` where it is not told; then
 -- nothing is said of it.
-use Rattle.std.specs.Prelude.{◌≡◌, ◌<◌, ◌≤◌, ℕ, ◌+◌, ◌==◌, nat_le, Bool, true, false, not, List, [], ◌∷◌, length, map, take, slice_get, Option, Some, None, Result, Ok, Err, IfSome, ⊤}
-use Rattle.std.specs.List.{list_any, list_all}
+use Rattle.std.specs.Prelude.{◌≡◌, ◌<◌, ◌≤◌, ℕ, ◌+◌, ◌==◌, nat_le, Bool, true, false, List, [], ◌∷◌, length, map, take, slice_get, Option, Some, None, Result, Ok, Err, IfSome, ⊤}
+use Rattle.std.specs.List.{list_any}
 use Rattle.mt_io.specs.Files.{Rose}
 use Rattle.mt_graph.specs.declared.Graph.{Graph}
 use Rattle.mt_syntax.specs.Position.{located}
@@ -10,12 +10,13 @@ use Rattle.mt_syntax.specs.declared.fault.ClickFault.{ClickFault}
 use Rattle.mt_click.specs.Graphs.{IsGraph, IsFault}
 use Rattle.mt_kinds.specs.declared.kind.Kind.{Kind}
 use Rattle.mt_kinds.specs.declared.kind.Kind.TheVariants.{ToDevice}
-use Rattle.mt_kinds.specs.Ports.{is_rewriter}
 use Rattle.mt_elements.specs.declared.fault.ChainFault.{ChainFault}
 use Rattle.mt_elements.specs.ChainState.{ChainState}
 use Rattle.mt_elements.specs.Described.{IsChainOf}
 use Rattle.mt_elements.specs.Accepted.{IsAccepted}
 use Rattle.mt_elements.specs.Refused as refusals
+use Rattle.mt_trees.specs.Elements.{tree_of}
+use Rattle.mt_synth.specs.Classes.{AreClasses, Class, HasTrees}
 use Rattle.mt_script.specs.declared.command.Command.{Command}
 use Rattle.mt_script.specs.Script.{commands_of}
 use Rattle.mt_command.specs.Parts.{DeviceView, BoundView}
@@ -25,7 +26,7 @@ use Rattle.mt_pcap.specs.Opened.{capture_in}
 use Rattle.metron.specs.Serving.{Held, HasInputRisen}
 use Rattle.metron.specs.declared.outcome.FileId.TheVariants as file
 use Rattle.metron.specs.declared.outcome.Fault.{Fault}
-use Rattle.metron.specs.declared.outcome.Fault.TheVariants.{Unbuilt, TooLong, Click, Script, Read, Memory}
+use Rattle.metron.specs.declared.outcome.Fault.TheVariants.{Unbuilt, TooLong, Click, Classes, Script, Read, Memory}
 use Rattle.metron.specs.declared.outcome.Fault.TheVariants as fault
 
 -- bytes, where they are told
@@ -37,10 +38,6 @@ abbrev pub text_limit : ℕ
 text_limit = 1048576
 
 -- ---- the chain
-
--- no element is a rewriter
-abbrev pub is_stateless : ChainState → Bool
-is_stateless chain = list_all (λ kind. not (is_rewriter kind)) chain.kinds
 
 -- the text is a configuration of a graph that is this chain, which is accepted
 pub record IsChain (text : List ℕ) (chain : ChainState) : Type 0 where
@@ -64,34 +61,41 @@ pub record IsNoChain (text : List ℕ) (told : ChainFault) : Type 0 where
   pub parsed : IsGraph text graph
   pub refused : refusals.IsRefused graph.elements.items graph.wires.items told
 
--- it is accepted, but has a rewriter, and does not run yet
-pub record IsUnbuilt (text : List ℕ) : Type 0 where
+-- so few classes that they have numbers
+pub record HasClasses (chain : ChainState) : Type 0 where
+  pub classes : List Class
+  pub are : AreClasses chain.entries (tree_of chain) classes
+  pub few : length classes < 65536
+
+-- it is accepted, but so many of its headers have trees of their own
+pub record HasTooManyClasses (text : List ℕ) (count : ℕ) : Type 0 where
   pub chain : ChainState
   pub is : IsChain text chain
-  pub not_stateless : is_stateless chain ≡ false
+  pub count_is : count ≡ 65536
+  pub many : HasTrees chain.entries (tree_of chain) 65536
 
 -- why a text gives no chain that runs
 abbrev pub IsTextFault : List ℕ → Fault → Type 0
 IsTextFault text (TooLong file.Chain) = text_limit < length text
 IsTextFault text (Click told) = IsNoConfiguration text told
 IsTextFault text (fault.Chain told) = IsNoChain text told
-IsTextFault text (Unbuilt file.Chain) = IsUnbuilt text
+IsTextFault text (Classes count) = HasTooManyClasses text count
 IsTextFault text fault = ⊥
 
 -- what a text gives: a chain that runs, or why there is none
 abbrev pub ReadsAs : List ℕ → Result ChainState Fault → Type 0
-ReadsAs text (Ok chain) = IsChain text chain × (is_stateless chain ≡ true)
+ReadsAs text (Ok chain) = IsChain text chain × HasClasses chain
 ReadsAs text (Err fault) = IsTextFault text fault
 
 abbrev pub IsChainRead : Told → ChainState → Type 0
-IsChainRead held chain = (is_stateless chain ≡ true) × IfSome held (λ text. IsChain text chain)
+IsChainRead held chain = IfSome held (λ text. IsChain text chain) × HasClasses chain
 
 -- why the chain's file gives no chain; the numbers are its failed reads before and after
 abbrev pub IsChainFault : Told → ℕ → ℕ → Fault → Type 0
 IsChainFault held before after (TooLong file.Chain) = IfSome held (λ text. text_limit < length text)
 IsChainFault held before after (Click told) = IfSome held (λ text. IsNoConfiguration text told)
 IsChainFault held before after (fault.Chain told) = IfSome held (λ text. IsNoChain text told)
-IsChainFault held before after (Unbuilt file.Chain) = IfSome held IsUnbuilt
+IsChainFault held before after (Classes count) = IfSome held (λ text. HasTooManyClasses text count)
 IsChainFault held before after (Read file.Chain) = Rose before after
 IsChainFault held before after Memory = ⊤
 IsChainFault held before after fault = ⊥

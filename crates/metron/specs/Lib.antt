@@ -2,6 +2,8 @@ pub mod Outcome
 pub mod Finish
 pub mod Inputs
 pub mod Serving
+pub mod Standing
+pub mod Written
 pub mod Laws
 pub mod Causes
 pub mod Due

@@ -2,7 +2,6 @@
 use Rattle.std.specs.Prelude.{◌≡◌, ◌≢◌, ◌⊎◌, ◌<◌, ℕ, ◌+◌, ◌/◌, ◌^◌, List, [], ◌∷◌, ◌++◌, length, Option, Some, None, slice_get, IfSome, ⊤}
 use Rattle.mt_io.specs.Files.{Rose, Gains, IsSame}
 use Rattle.mt_io.specs.Copy.{GainsFront}
-use Rattle.mt_packet.specs.Packet.{PacketState}
 use Rattle.mt_packet.specs.declared.frame.Stamped.{Stamped}
 use Rattle.mt_pcap.specs.declared.fault.PcapFault.{PcapFault}
 use Rattle.mt_pcap.specs.declared.fault.PcapFault.TheVariants.{ReadFault, NoMemory, BadRecord, Torn}
@@ -17,8 +16,10 @@ use Rattle.mt_chain.specs.Run.{run_packet}
 use Rattle.mt_chain.specs.Sequence.{run_all}
 use Rattle.mt_chain.specs.declared.run.Fate.{Fate}
 use Rattle.mt_chain.specs.declared.run.Fate.TheVariants.{Sent, Dropped}
-use Rattle.mt_chain.specs.Fates.{packets_of, fate_text, sent_text}
+use Rattle.mt_chain.specs.Fates.{packet_of, packets_of, fate_text, sent_text}
 use Rattle.mt_chain.specs.Order.{numbers}
+use Rattle.metron.specs.Outcome.{Account}
+use Rattle.metron.specs.Written.{writes_all, writes_for}
 use Rattle.metron.specs.declared.outcome.FileId.TheVariants as file
 use Rattle.metron.specs.declared.outcome.Fault.{Fault}
 use Rattle.metron.specs.declared.outcome.Fault.TheVariants.{Done, Capture as CaptureTold, Frames, Read, Write, Memory}
@@ -116,25 +117,26 @@ AreFirst names first frames = IfSome (captures_in first names) (λ captures. (re
 
 -- ---- frames
 
--- The frames were served in their order. The chain, run element by element on their packets one after the other,
--- gives these fates; R tells what was written of them.
-pub record HasServed (R : Outputs → Held → Held → (ℕ → List ℕ) → Type 0) (chain : ChainState) (outputs : Outputs) (old new : Held) (order : List ℕ) (frames : List Stamped) : Type 0 where
+-- The frames were served in their order. The chain, run element by element on their packets one after the other, with
+-- the ports that were picked, gives these fates; R tells what was written of them.
+pub record HasServed (R : Outputs → Held → Held → (ℕ → List ℕ) → Type 0) (chain : ChainState) (outputs : Outputs) (old new : Held) (account : Account) (frames : List Stamped) : Type 0 where
   pub fates : List Fate
-  pub run : run_all chain (packets_of frames) [] ≡ Some fates
-  pub numbered : order ≡ numbers (length frames)
+  pub run : run_all chain (packets_of frames) account.picks ≡ Some fates
+  pub counted : writes_all chain frames account.picks ≡ Some account.writes
+  pub numbered : account.order ≡ numbers (length frames)
   pub written : R outputs old new (λ device. sent_text device fates)
 
 -- The frames of a merge of the captures that files of these names held at first, and hold now, were served until this fault.
-pub data IsServing (chain : ChainState) (inputs : List (List ℕ)) (outputs : Outputs) (first held old new : Held) (reads reads' writes writes' : List ℕ → ℕ) (order : List ℕ) (fault : Fault) : Type 0 where
+pub data IsServing (chain : ChainState) (inputs : List (List ℕ)) (outputs : Outputs) (first held old new : Held) (reads reads' writes writes' : List ℕ → ℕ) (account : Account) (fault : Fault) : Type 0 where
   all_served :
       (frames : List Stamped) (end : MergedEnd) → IsWholeMerge inputs first frames end → IsEnd end → fault ≡ fault_of end
-      → HasServed AllGain chain outputs old new order frames → IsServing chain inputs outputs first held old new reads reads' writes writes' order fault
+      → HasServed AllGain chain outputs old new account frames → IsServing chain inputs outputs first held old new reads reads' writes writes' account fault
   input_failed :
       (frames : List Stamped) (device : ℕ) → IsBrokenMerge inputs first held frames device → fault ≡ Read (file.Capture device) → HasInputRisen inputs device reads reads'
-      → HasServed AllGain chain outputs old new order frames → IsServing chain inputs outputs first held old new reads reads' writes writes' order fault
+      → HasServed AllGain chain outputs old new account frames → IsServing chain inputs outputs first held old new reads reads' writes writes' account fault
   broken_off :
       (frames : List Stamped) → AreFirst inputs first frames → OutputFault outputs writes writes' fault
-      → HasServed AllGainFront chain outputs old new order frames → IsServing chain inputs outputs first held old new reads reads' writes writes' order fault
+      → HasServed AllGainFront chain outputs old new account frames → IsServing chain inputs outputs first held old new reads reads' writes writes' account fault
 
 -- ---- one frame
 
@@ -143,22 +145,34 @@ abbrev pub IsWritable : Fate → Type 0
 IsWritable (Sent device frame) = (frame.stamp / 1000000000 < 2 ^ 32) × (length frame.frame < 2 ^ 32)
 IsWritable (Dropped why) = ⊤
 
--- One packet was served: it ran, its number stands behind the others, and R tells what was written of it.
-pub record HasServedOne (R : Outputs → Held → Held → (ℕ → List ℕ) → Type 0) (chain : ChainState) (outputs : Outputs) (tables tables' : TablesState) (packet : PacketState) (number : ℕ) (old new : Held) (order order' : List ℕ) : Type 0 where
+-- an account of one frame more
+abbrev pub with_frame : Account → ℕ → List ℕ → ℕ → Account
+with_frame account number picked count = record account { order = account.order ++ number ∷ []; picks = account.picks ++ picked; writes = account.writes + count }
+
+-- A frame ran: with the ports that were picked for it, and whatever picks follow, it has this fate and leaves these
+-- tables; so many fields were written.
+pub record HasRunOne (chain : ChainState) (tables tables' : TablesState) (frame : Stamped) (fate : Fate) (picked : List ℕ) (count : ℕ) : Type 0 where
+  pub run : (more : List ℕ) → run_packet chain tables (packet_of frame) (picked ++ more) ≡ Some (record { fate = fate; tables = tables'; picks = more })
+  pub counted : (more : List ℕ) → writes_for chain tables frame (picked ++ more) ≡ Some count
+
+-- One frame was served: it ran, the account tells of it, and R tells what was written of it.
+pub record HasServedOne (R : Outputs → Held → Held → (ℕ → List ℕ) → Type 0) (chain : ChainState) (outputs : Outputs) (tables tables' : TablesState) (frame : Stamped) (old new : Held) (account account' : Account) : Type 0 where
   pub fate : Fate
-  pub run : run_packet chain tables packet [] ≡ Some (record { fate = fate; tables = tables'; picks = [] })
-  pub ordered : order' ≡ order ++ number ∷ []
+  pub picked : List ℕ
+  pub count : ℕ
+  pub run : HasRunOne chain tables tables' frame fate picked count
+  pub told : account' ≡ with_frame account frame.number picked count
   pub written : R outputs old new (λ device. fate_text device fate)
 
 -- it was not served
-pub record IsUnserved (old new : Held) (order order' : List ℕ) : Type 0 where
-  pub ordered : order' ≡ order
+pub record IsUnserved (old new : Held) (account account' : Account) : Type 0 where
+  pub told : account' ≡ account
   pub written : IsSame old new
 
 -- or it was, and a front of what it sends was written
-abbrev pub HasNotServedOne : ChainState → Outputs → TablesState → PacketState → ℕ → Held → Held → List ℕ → List ℕ → Type 0
-HasNotServedOne chain outputs tables packet number old new order order' =
-    IsUnserved old new order order' ⊎ ((tables' : TablesState) × HasServedOne AllGainFront chain outputs tables tables' packet number old new order order')
+abbrev pub HasNotServedOne : ChainState → Outputs → TablesState → Stamped → Held → Held → Account → Account → Type 0
+HasNotServedOne chain outputs tables frame old new account account' =
+    IsUnserved old new account account' ⊎ ((tables' : TablesState) × HasServedOne AllGainFront chain outputs tables tables' frame old new account account')
 
 -- what a fault of a merge makes of a run
 abbrev pub MergeCause : ℕ → PcapFault → Fault → Type 0

@@ -1,29 +1,37 @@
 //! What the files of a command hold: the chain and the script.
-ghost use Rattle.std.specs.Prelude.{◌≡◌, ◌≤◌, ◌⊎◌, length, IfOk, IfErr, OnOk, true, not};
-ghost use Rattle.std.specs.List.{list_all};
+ghost use Rattle.std.specs.Prelude.{◌≡◌, ◌<◌, ◌≤◌, ◌⊎◌, ℕ, List, Option, length, map, IfOk, IfErr, OnOk};
 ghost use Rattle.mt_elements.specs.declared.fault.ChainWhy.TheVariants.{NoMemory};
-ghost use Rattle.mt_kinds.specs.Ports.{is_rewriter};
+ghost use Rattle.mt_synth.specs.Classes.{AreClasses, HasTrees, IsFaultOf, class_form};
+ghost use Rattle.mt_terms.specs.Trees.{TreeForm};
+ghost use Rattle.mt_trees.specs.Elements.{tree_of};
 ghost use Rattle.mt_command.specs.Apart.{HaveNames};
 ghost use Rattle.mt_io.specs.Files.{IsSame, IsSameBut, NeverFell};
 ghost use Rattle.metron.specs.declared.outcome.Fault.TheVariants.{Memory};
 ghost use Rattle.metron.specs.declared.outcome.Fault.TheVariants as RunFault;
-ghost use Rattle.metron.specs.Inputs.{is_stateless, IsChain, IsTextFault, IsChainRead, IsChainFault, IsScriptRead, ScriptFault, devices_of};
+ghost use Rattle.metron.specs.Inputs.{IsChain, IsTextFault, IsChainRead, IsChainFault, IsScriptRead, ScriptFault, devices_of};
 
 use crate::{Fault, FileId};
 use mt_click::{ClickWhy, parse};
 use mt_elements::{Chain, ChainFault, ChainWhy, check};
 use mt_io::{Files, TextFault, read_up_to};
-use mt_kinds::Kind;
 use mt_script::ScriptWhy;
+use mt_synth::{SynthFault, synthesise};
+use mt_terms::Classes;
 use std::alloc::Global;
 
 /// The most bytes that a chain's text and a script have.
 const TEXT_LIMIT: usize = 1_048_576;
 
-/// The chain whose text a file holds.
-pub(crate) fn read_chain<F: Files>(alloc: Global, files: &mut F, name: &str) -> Result<Chain, Fault>
-    ensures ok { IfOk result (IsChainRead (F.held files.old name.now)) }
-    ensures names { IfOk result (λ chain. HaveNames (devices_of chain)) }
+/// The chain whose text a file holds, and its classes.
+pub(crate) fn read_chain<F: Files>(
+    alloc: Global,
+    files: &mut F,
+    name: &str,
+) -> Result<(Chain, Classes), Fault>
+    ensures ok { IfOk result (λ r. IsChainRead (F.held files.old name.now) r.0) }
+    ensures classes { IfOk result (λ r. AreClasses r.0.entries (tree_of r.0) (map class_form r.1)) }
+    ensures few { IfOk result (λ r. length r.1 < 65536) }
+    ensures names { IfOk result (λ r. HaveNames (devices_of r.0)) }
     ensures err { IfErr result (IsChainFault (F.held files.old name.now) (F.read_faults files.old name.now) (F.read_faults files.new name.now)) }
 
     ensures other_files { IsSameBut name.now (F.held files.old) (F.held files.new) }
@@ -40,11 +48,13 @@ pub(crate) fn read_chain<F: Files>(alloc: Global, files: &mut F, name: &str) -> 
     chain_of(alloc, &text)
 }
 
-/// The chain of a text, where it runs today.
-fn chain_of(alloc: Global, text: &[u8]) -> Result<Chain, Fault>
+/// The chain of a text, and its classes.
+fn chain_of(alloc: Global, text: &[u8]) -> Result<(Chain, Classes), Fault>
     requires { length text.now ≤ 1048576 }
-    ensures ok { IfOk result (λ c. (is_stateless c ≡ true) × IsChain text.now c) }
-    ensures names { IfOk result (λ chain. HaveNames (devices_of chain)) }
+    ensures ok { IfOk result (λ r. IsChain text.now r.0) }
+    ensures classes { IfOk result (λ r. AreClasses r.0.entries (tree_of r.0) (map class_form r.1)) }
+    ensures few { IfOk result (λ r. length r.1 < 65536) }
+    ensures names { IfOk result (λ r. HaveNames (devices_of r.0)) }
     ensures err { IfErr result (λ f. (f ≡ Memory) ⊎ IsTextFault text.now f) }
 {
     let graph = match parse(alloc, text) {
@@ -56,10 +66,19 @@ fn chain_of(alloc: Global, text: &[u8]) -> Result<Chain, Fault>
         Ok(chain) => chain,
         Err(fault) => return Err(refusal(fault)),
     };
-    if is_stateless(chain.kinds()) {
-        Ok(chain)
-    } else {
-        Err(Fault::Unbuilt(FileId::Chain))
+    match synthesise(alloc, &chain) {
+        Ok(classes) => Ok((chain, classes)),
+        Err(fault) => Err(too_many(fault)),
+    }
+}
+
+/// The fault of a chain that has no classes.
+fn too_many(fault: SynthFault) -> Fault
+    ensures { (devices : ℕ) (tree_at : List ℕ → Option TreeForm) → IsFaultOf devices tree_at fault → (result ≡ Memory) ⊎ ((count : ℕ) × (result ≡ RunFault.Classes count) × (count ≡ 65536) × HasTrees devices tree_at 65536) }
+{
+    match fault {
+        SynthFault::TooManyClasses(count) => Fault::Classes(count),
+        SynthFault::NoMemory => Fault::Memory,
     }
 }
 
@@ -72,26 +91,6 @@ fn refusal(fault: ChainFault) -> Fault
         ChainWhy::NoMemory => Fault::Memory,
         _ => Fault::Chain(fault),
     }
-}
-
-/// Whether none of the elements is a rewriter.
-fn is_stateless(kinds: &[Kind]) -> bool
-    ensures { result ≡ list_all (λ kind. not (is_rewriter kind)) kinds.now }
-{
-    let mut rest = kinds;
-    while let [kind, after @ ..] = rest {
-        if is_rewriter(kind) {
-            return false;
-        }
-        rest = after;
-    }
-    true
-}
-
-fn is_rewriter(kind: &Kind) -> bool
-    ensures { result ≡ is_rewriter kind.now }
-{
-    matches!(kind, Kind::IPRewriter(_))
 }
 
 /// Reads a script. None of the commands can be run yet.

@@ -7,15 +7,21 @@ mod ends;
 mod inputs;
 mod laws;
 mod outcome;
+mod policies;
 mod run;
 mod serve;
 #[cfg(test)]
 mod tests;
+mod worker;
+
+ghost use Rattle.std.specs.Prelude.{◌<◌, ◌^◌, length};
 
 use mt_io::RealFiles;
+use mt_ledger::{Pick, Policies, Policy};
+use mt_text::Text;
 pub use outcome::{Fault, FileId, Outcome};
 pub use run::{metron, serve_command};
-use std::alloc::Global;
+use std::alloc::{AllocError, Global};
 use std::env::Env;
 use std::io::ErrorKind;
 use std::process::ExitCode;
@@ -34,9 +40,32 @@ fn main(rt: HostRuntime) -> ExitCode {
     if words.len() > u32::MAX as usize {
         return ExitCode::from(MISUSED);
     }
-    let files = RealFiles::new(&rt, rt.alloc());
-    let (outcome, _) = serve_command(rt.alloc(), &words, files);
-    told(&rt, outcome.fault)
+    match run_words(&rt, &words) {
+        Ok(fault) => told(&rt, fault),
+        Err(_) => told(&rt, Fault::Memory),
+    }
+}
+
+/// Runs the command that the words are. Of the ports at hand the policy `low` takes the first, `high` the last, and `spread`
+/// the one whose place is the source port of the flow modulo their number.
+fn run_words(rt: &HostRuntime, words: &[String]) -> Result<Fault, AllocError>
+    requires { length words.now < 2 ^ 32 }
+{
+    let alloc = rt.alloc();
+    let low: Pick = Box::new(alloc, |_hint, _count| 0)?;
+    let high: Pick = Box::new(alloc, |_hint, count: u32| {
+        if count == 0 { 0 } else { count - 1 }
+    })?;
+    let spread: Pick = Box::new(alloc, |hint: u32, count: u32| {
+        if count == 0 { 0 } else { hint % count }
+    })?;
+    let low = Policy::new(Text::copy_of(alloc, b"low")?, low);
+    let high = Policy::new(Text::copy_of(alloc, b"high")?, high);
+    let spread = Policy::new(Text::copy_of(alloc, b"spread")?, spread);
+    let policies = Policies::new(vec![in alloc; low, high, spread]?);
+    let files = RealFiles::new(rt, alloc);
+    let (outcome, _) = serve_command(alloc, words, files, policies);
+    Ok(outcome.fault)
 }
 
 /// Prints the line of a fault. That it can't be printed changes no status.

@@ -1,12 +1,12 @@
 //! How a run ended.
-ghost use Rattle.std.specs.Prelude.{◌≡◌, []};
-ghost use Rattle.metron.specs.Outcome.{status_of, text_status};
+ghost use Rattle.std.specs.Prelude.{◌≡◌, ◌∷◌, ◌++◌, ◌<◌, [], OnErr, OnOk, vec_capacity, vec_len};
+ghost use Rattle.metron.specs.Outcome.{account_of, nothing_served, status_of, text_status, told_of};
 
 use mt_click::ClickFault;
 use mt_elements::ChainFault;
 use mt_pcap::PcapFault;
 use mt_script::ScriptFault;
-use std::alloc::Global;
+use std::alloc::{AllocError, Global};
 use thiserror::Error;
 
 /// A file that the words name. Devices are numbered from 1.
@@ -61,6 +61,9 @@ pub enum Fault {
     /// The configuration is no chain that is accepted.
     #[error("metron: chain element {} line {}: {}", .0.element, .0.line, .0.why)]
     Chain(ChainFault),
+    /// The chain has so many classes or more, where numbers are given to one less.
+    #[error("metron: {0} classes")]
+    Classes(u32),
     /// The script is refused.
     #[error("metron: script line {}: {}", .0.line, .0.why)]
     Script(ScriptFault),
@@ -90,7 +93,7 @@ impl Fault {
             Fault::Done => 0,
             Fault::UsageWord(_) | Fault::Unbound(_) => 1,
             Fault::Unbuilt(file) | Fault::TooLong(file) => file.text_status(),
-            Fault::Click(_) | Fault::Chain(_) => 2,
+            Fault::Click(_) | Fault::Chain(_) | Fault::Classes(_) => 2,
             Fault::Script(_) => 3,
             Fault::Read(_) => 4,
             Fault::Capture(_, _) => 5,
@@ -101,6 +104,55 @@ impl Fault {
     }
 }
 
+/// One number more, for which there is room.
+fn push_within(numbers: &mut Vec<u32>, number: u32)
+    requires { vec_len numbers.old < vec_capacity numbers.old }
+    ensures { numbers.new.items ≡ numbers.old.items ++ number ∷ [] }
+{
+    let _ = numbers.push(number);
+}
+
+/// What is told of the frames that were served so far.
+#[derive(Drop)]
+pub(crate) struct Tally {
+    /// The numbers of the frames, in the order in which they were served.
+    pub order: Vec<u32>,
+    /// The ports that were picked for them, in that order.
+    pub picks: Vec<u16>,
+    /// The number of classes of the chain; 0 before the outputs are begun.
+    pub classes: u32,
+    /// How many fields were written.
+    pub writes: u64,
+}
+
+impl Tally {
+    /// Of no frame.
+    pub(crate) fn new(alloc: Global) -> Tally
+        ensures { account_of result ≡ nothing_served }
+    {
+        Tally {
+            order: Vec::new(alloc),
+            picks: Vec::new(alloc),
+            classes: 0,
+            writes: 0,
+        }
+    }
+
+    /// Notes one frame more: its number, the ports that were picked for it, and how many fields were written so far.
+    pub(crate) fn note(&mut self, number: u32, picks: &[u16], writes: u64) -> Result<(), AllocError>
+        ensures noted { OnOk result (account_of self.new ≡ record { order = self.old.order.items ++ number ∷ []; picks = self.old.picks.items ++ picks.now; classes = self.old.classes; writes = writes }) }
+        ensures unchanged { OnErr result (account_of self.new ≡ account_of self.old) }
+        ensures classes { self.new.classes ≡ self.old.classes }
+        ensures writes { OnOk result (self.new.writes ≡ writes) }
+    {
+        self.order.try_reserve(1)?;
+        self.picks.extend_from_slice(picks)?;
+        push_within(&mut self.order, number);
+        self.writes = writes;
+        Ok(())
+    }
+}
+
 /// How a run ended, and what became of the frames. Frames are numbered from 0, over all devices.
 #[derive(Drop)]
 pub struct Outcome {
@@ -108,45 +160,50 @@ pub struct Outcome {
     pub status: u8,
     /// Why the run ended.
     pub fault: Fault,
-    /// The number of traffic classes; 0 as long as no chain is made of classes.
+    /// The number of traffic classes of the chain; 0 where the run did not come so far as to serve.
     pub classes: u32,
     /// The number of rules of the switch's table; 0 as long as there is no table.
     pub rules: u32,
     order: Vec<u32>,
     picks: Vec<u16>,
+    writes: u64,
     per_server: Vec<u32>,
 }
 
 impl Outcome {
-    ghost use Rattle.metron.specs.Outcome.{order_of, picks_of};
-
-    pub(crate) fn new(alloc: Global, fault: Fault, order: Vec<u32>) -> Outcome
+    pub(crate) fn new(alloc: Global, fault: Fault, tally: Tally) -> Outcome
         ensures status { result.status ≡ status_of result.fault }
         ensures fault { result.fault ≡ fault }
-        ensures order { order_of result ≡ order.items }
-        ensures picks { picks_of result ≡ [] }
+        ensures told { told_of result ≡ account_of tally }
     {
+        let Tally {
+            order,
+            picks,
+            classes,
+            writes,
+        } = tally;
         Outcome {
             status: fault.status(),
             fault,
-            classes: 0,
+            classes,
             rules: 0,
             order,
-            picks: Vec::new(alloc),
+            picks,
+            writes,
             per_server: Vec::new(alloc),
         }
     }
 
     /// The numbers of the frames that were served, in the order in which they were.
     pub fn order(&self) -> &[u32]
-        ensures { result.now ≡ order_of self.now }
+        ensures { result.now ≡ (told_of self.now).order }
     {
         &self.order
     }
 
-    /// The ports that were picked for the frames that were served, in that order. No chain that runs today picks one.
+    /// The ports that were picked for the frames that were served, in that order.
     pub fn picks(&self) -> &[u16]
-        ensures { result.now ≡ picks_of self.now }
+        ensures { result.now ≡ (told_of self.now).picks }
     {
         &self.picks
     }
@@ -156,15 +213,17 @@ impl Outcome {
         0
     }
 
-    /// How many frames each server served; empty as long as there are no servers.
+    /// How many frames each server served; empty as long as the share of each is not told.
     pub fn per_server(&self) -> &[u32]
         ensures { result.now ≡ self.now.per_server.items }
     {
         &self.per_server
     }
 
-    /// How many writes of fields the servers made; 0 as long as there are no servers.
-    pub fn writes(&self) -> u64 {
-        0
+    /// How many fields were written in the frames that were served, one for each field that a leaf of a tree writes.
+    pub fn writes(&self) -> u64
+        ensures { result ≡ (told_of self.now).writes }
+    {
+        self.writes
     }
 }

@@ -1,12 +1,12 @@
 //! The top call.
-ghost use Rattle.std.specs.Prelude.{◌≡◌, ◌<◌, ◌≤◌, ◌^◌, ℕ, List, [], length, map, option_map, IfSome, Some};
+ghost use Rattle.std.specs.Prelude.{◌≡◌, ◌<◌, ◌≤◌, ◌^◌, List, length, map, option_map, IfSome, Some};
 ghost use Rattle.std.specs.Bool.{OnTrue};
 ghost use Rattle.std.specs.String.{string_bytes};
 ghost use Rattle.mt_io.specs.Files.{NeverFell};
 ghost use Rattle.mt_command.specs.Parts.{RunView, bound_view};
 ghost use Rattle.mt_command.specs.Command.{IsCommand};
-ghost use Rattle.metron.specs.Outcome.{status_of, order_of, picks_of};
-ghost use Rattle.metron.specs.Causes.{State, state_of, IsUntouched, IsRun};
+ghost use Rattle.metron.specs.Outcome.{Account, account_of, nothing_served, status_of, told_of};
+ghost use Rattle.metron.specs.Causes.{Call, State, call_of, state_of, IsUntouched, IsRun};
 ghost use Rattle.metron.specs.Finish.{AreOutputs, IsServed, UnwrittenCause};
 ghost use Rattle.metron.specs.Inputs.{outputs_of};
 ghost use Rattle.metron.specs.Serving.{IsFile};
@@ -15,97 +15,117 @@ ghost use Rattle.metron.specs.declared.outcome.Fault.{Fault};
 
 use crate::command::{Ended, run_command};
 use crate::laws::one_answer_of_runs;
+use crate::outcome::Tally;
+use crate::policies::command_of;
 use crate::{Fault, FileId, Outcome};
 use mt_command::laws::files_are_apart;
-use mt_command::{Bound, WordsFault, read};
+use mt_command::{Bound, WordsFault};
 use mt_io::{Buffered, Files};
+use mt_ledger::Policies;
 use std::alloc::Global;
 
 /// Runs the command that the words are, over files by name:
 ///
 /// ```text
-/// run CHAIN SCRIPT BINDING..
+/// run CHAIN SCRIPT BINDING.. [--ports NAME]
 /// ```
 ///
-/// reads the chain and the script, merges the captures of its devices by time, takes each frame through the
-/// chain, and writes for each device on which frames are sent a capture of those.
-pub fn metron<F: Files>(alloc: Global, words: &[String], files: &mut F) -> Outcome
+/// reads the chain, makes its classes, reads the script, merges the captures of its devices by time, has a server take
+/// each frame down the tree of its class, and writes for each device on which frames are sent a capture of those. Ports
+/// of pools are picked by the policy of that name, `low` where none is named.
+pub fn metron<F: Files>(
+    alloc: Global,
+    words: &[String],
+    files: &mut F,
+    policies: Policies,
+) -> Outcome
     requires few { length words.now < 2 ^ 32 }
     ensures status { result.status ≡ status_of result.fault }
-    ensures run { IsRun (map string_bytes words.now)
+    ensures run { IsRun (call_of (map (λ policy. policy.name) policies.list.items) (map string_bytes words.now))
         (state_of F.held F.written F.read_faults F.write_faults files.old)
         (state_of F.held F.written F.read_faults F.write_faults files.new)
-        (order_of result) (picks_of result) result.fault }
+        (told_of result) result.fault }
     ensures done { result.fault ≡ Fault.Done
-        → IsFinished (map string_bytes words.now)
+        → IsFinished (call_of (map (λ policy. policy.name) policies.list.items) (map string_bytes words.now))
         (state_of F.held F.written F.read_faults F.write_faults files.old)
         (state_of F.held F.written F.read_faults F.write_faults files.new)
-        (order_of result) (picks_of result) }
+        (told_of result) }
     ensures nothing_written { IsEarly result.fault
         → IsUntouched
         (state_of F.held F.written F.read_faults F.write_faults files.old)
         (state_of F.held F.written F.read_faults F.write_faults files.new)
-        (order_of result) (picks_of result) }
-    ensures exact { IsExact (map string_bytes words.now)
+        (told_of result) }
+    ensures exact { IsExact (call_of (map (λ policy. policy.name) policies.list.items) (map string_bytes words.now))
         (state_of F.held F.written F.read_faults F.write_faults files.old)
         (state_of F.held F.written F.read_faults F.write_faults files.new)
         result.fault }
     ensures complete { NoneFailed
         (state_of F.held F.written F.read_faults F.write_faults files.old)
         (state_of F.held F.written F.read_faults F.write_faults files.new)
-        → IsComplete (map string_bytes words.now) (F.held files.old) result.fault }
+        → IsComplete (call_of (map (λ policy. policy.name) policies.list.items) (map string_bytes words.now)) (F.held files.old) result.fault }
 {
     one_answer_of_runs();
-    let mut order = Vec::new(alloc);
-    let fault = run(alloc, words, files, &mut order);
-    Outcome::new(alloc, fault, order)
+    let mut tally = Tally::new(alloc);
+    let fault = run(alloc, words, files, policies, &mut tally);
+    Outcome::new(alloc, fault, tally)
 }
 
 /// Runs the command that the words are, as `metron` does, over files that are read and written through
 /// buffers, and has all written. Where that fails at last, the run ends as at any failed write of that output.
-pub fn serve_command<F: Files + Drop>(alloc: Global, words: &[String], files: F) -> (Outcome, F)
+pub fn serve_command<F: Files + Drop>(
+    alloc: Global,
+    words: &[String],
+    files: F,
+    policies: Policies,
+) -> (Outcome, F)
     requires few { length words.now < 2 ^ 32 }
     ensures status { result.0.status ≡ status_of result.0.fault }
-    ensures run { IsServed (map string_bytes words.now)
+    ensures run { IsServed (call_of (map (λ policy. policy.name) policies.list.items) (map string_bytes words.now))
         (state_of F.held F.written F.read_faults F.write_faults files)
         (state_of F.held F.written F.read_faults F.write_faults result.1)
-        (order_of result.0) (picks_of result.0) result.0.fault }
+        (told_of result.0) result.0.fault }
     ensures done { result.0.fault ≡ Fault.Done
-        → IsFinished (map string_bytes words.now)
+        → IsFinished (call_of (map (λ policy. policy.name) policies.list.items) (map string_bytes words.now))
         (state_of F.held F.written F.read_faults F.write_faults files)
         (state_of F.held F.written F.read_faults F.write_faults result.1)
-        (order_of result.0) (picks_of result.0) }
+        (told_of result.0) }
     ensures nothing_written { IsEarly result.0.fault
         → IsUntouched
         (state_of F.held F.written F.read_faults F.write_faults files)
         (state_of F.held F.written F.read_faults F.write_faults result.1)
-        (order_of result.0) (picks_of result.0) }
-    ensures exact { IsExact (map string_bytes words.now)
+        (told_of result.0) }
+    ensures exact { IsExact (call_of (map (λ policy. policy.name) policies.list.items) (map string_bytes words.now))
         (state_of F.held F.written F.read_faults F.write_faults files)
         (state_of F.held F.written F.read_faults F.write_faults result.1)
         result.0.fault }
     ensures complete { NoneFailed
         (state_of F.held F.written F.read_faults F.write_faults files)
         (state_of F.held F.written F.read_faults F.write_faults result.1)
-        → IsComplete (map string_bytes words.now) (F.held files) result.0.fault }
+        → IsComplete (call_of (map (λ policy. policy.name) policies.list.items) (map string_bytes words.now)) (F.held files) result.0.fault }
 {
     one_answer_of_runs();
-    let mut order = Vec::new(alloc);
-    let (fault, files) = run_buffered(alloc, words, files, &mut order);
-    (Outcome::new(alloc, fault, order), files)
+    let mut tally = Tally::new(alloc);
+    let (fault, files) = run_buffered(alloc, words, files, policies, &mut tally);
+    (Outcome::new(alloc, fault, tally), files)
 }
 
-fn run<F: Files>(alloc: Global, words: &[String], files: &mut F, order: &mut Vec<u32>) -> Fault
+fn run<F: Files>(
+    alloc: Global,
+    words: &[String],
+    files: &mut F,
+    policies: Policies,
+    tally: &mut Tally,
+) -> Fault
     requires few { length words.now < 2 ^ 32 }
-    requires first { order.old.items ≡ [] }
-    ensures { IsRun (map string_bytes words.now)
+    requires first { account_of tally.old ≡ nothing_served }
+    ensures { IsRun (call_of (map (λ policy. policy.name) policies.list.items) (map string_bytes words.now))
         (state_of F.held F.written F.read_faults F.write_faults files.old)
         (state_of F.held F.written F.read_faults F.write_faults files.new)
-        order.new.items [] result }
+        (account_of tally.new) result }
 {
     files_are_apart();
-    match read(alloc, words) {
-        Ok(command) => run_command(alloc, &command, files, order).fault,
+    match command_of(alloc, words, policies) {
+        Ok((command, policy)) => run_command(alloc, &command, policy, files, tally).fault,
         Err(WordsFault::Word(word)) => Fault::UsageWord(word),
         Err(WordsFault::NoMemory) => Fault::Memory,
     }
@@ -115,36 +135,37 @@ fn run_buffered<F: Files + Drop>(
     alloc: Global,
     words: &[String],
     files: F,
-    order: &mut Vec<u32>,
+    policies: Policies,
+    tally: &mut Tally,
 ) -> (Fault, F)
     requires few { length words.now < 2 ^ 32 }
-    requires first { order.old.items ≡ [] }
-    ensures { IsServed (map string_bytes words.now)
+    requires first { account_of tally.old ≡ nothing_served }
+    ensures { IsServed (call_of (map (λ policy. policy.name) policies.list.items) (map string_bytes words.now))
         (state_of F.held F.written F.read_faults F.write_faults files)
         (state_of F.held F.written F.read_faults F.write_faults result.1)
-        order.new.items [] result.0 }
+        (account_of tally.new) result.0 }
 {
     files_are_apart();
-    let command = match read(alloc, words) {
-        Ok(command) => command,
+    let (command, policy) = match command_of(alloc, words, policies) {
+        Ok(read) => read,
         Err(WordsFault::Word(word)) => return (Fault::UsageWord(word), files),
         Err(WordsFault::NoMemory) => return (Fault::Memory, files),
     };
     let mut buffered = Buffered::new(alloc, files);
-    let ended = run_command(alloc, &command, &mut buffered, order);
+    let ended = run_command(alloc, &command, policy, &mut buffered, tally);
     finish_run(&ended, buffered)
 }
 
 /// Has all written that is pending when a run has ended.
 fn finish_run<F: Files + Drop>(ended: &Ended<'_>, mut buffered: Buffered<F>) -> (Fault, F)
     requires { length ended.now.bound.items ≤ 32 }
-    ensures { (words : List (List ℕ)) (command : RunView) (begun : State) (order : List ℕ) → IsCommand words command
-        → IsRun words begun
+    ensures { (call : Call) (command : RunView) (begun : State) (account : Account) → IsCommand call.policies call.words command
+        → IsRun call begun
         (state_of ⟦<Buffered<F> as Files>⟧.held ⟦<Buffered<F> as Files>⟧.written ⟦<Buffered<F> as Files>⟧.read_faults ⟦<Buffered<F> as Files>⟧.write_faults buffered)
-        order [] ended.now.fault
-        → AreOutputs words begun.held command (outputs_of (map bound_view ended.now.bound.items))
+        account ended.now.fault
+        → AreOutputs call begun.held command (outputs_of (map bound_view ended.now.bound.items))
         → NeverFell begun.failed_writes (⟦<Buffered<F> as Files>⟧.write_faults buffered)
-        → IsServed words begun (state_of F.held F.written F.read_faults F.write_faults result.1) order [] result.0 }
+        → IsServed call begun (state_of F.held F.written F.read_faults F.write_faults result.1) account result.0 }
 {
     match buffered.finish() {
         Ok(()) => (ended.fault, buffered.into_inner()),

@@ -1,81 +1,68 @@
 //! Serving the frames of a merge, one after the other, and writing those that are sent.
-ghost use Rattle.std.specs.Prelude.{◌≡◌, ◌<◌, ◌≤◌, ◌/◌, ◌^◌, ℕ, List, [], length, OnOk, OnErr, IfErr};
+ghost use Rattle.std.specs.Prelude.{◌≡◌, ◌<◌, ◌≤◌, ◌+◌, ◌/◌, ◌^◌, ℕ, List, [], length, OnOk, OnErr, IfErr};
 ghost use Rattle.mt_io.specs.Files.{IsSame, NeverFell};
-ghost use Rattle.mt_packet.specs.declared.layer.Layer.TheVariants as layer;
 ghost use Rattle.mt_pcap.specs.Merged.{HasMerged};
 ghost use Rattle.mt_pcap.specs.Sources.{IsSameBeside, names_of};
-ghost use Rattle.mt_elements.specs.ChainState.{entry_of};
-ghost use Rattle.mt_rewriter.specs.Kept.{AreTables};
-ghost use Rattle.mt_chain.specs.Run.{IsStateless, IsThere};
+ghost use Rattle.mt_elements.specs.ChainState.{ChainState};
 ghost use Rattle.mt_chain.specs.declared.run.Fate.TheVariants as fates;
 ghost use Rattle.mt_chain.specs.Fates.{fate_text};
+ghost use Rattle.metron.specs.Outcome.{account_of, nothing_served};
 ghost use Rattle.metron.specs.Serving.{Held, AreFilesApart, AllGain, AllGainFront, IsSameElsewhere, OutputFault, IsServing, IsWritable, HasServedOne, HasNotServedOne, MergeCause};
+ghost use Rattle.metron.specs.Standing.{IsAtRest, IsBegun, tables_at};
 
+use crate::outcome::Tally;
+use crate::worker::Worker;
 use crate::{Fault, FileId};
-use mt_chain::laws::{devices_have_entries, one_packet_behind_others};
-use mt_chain::{Fate, RunFault, Tables, run_one};
-use mt_elements::Chain;
+use mt_chain::Fate;
+use mt_chain::laws::{fates_come_from_packets, one_packet_behind_others};
 use mt_io::Files;
-use mt_packet::{Packet, Stamped};
+use mt_packet::Stamped;
 use mt_pcap::laws::merges_all;
 use mt_pcap::{Merge, MergeFault, PcapFault, WriteFault, Writer};
+use mt_pipeline::Context;
 use std::alloc::Global;
 
 /// The most frames that are served in a run.
 const MOST_FRAMES: u32 = 16_777_216;
 
-/// Serves the frames of a merge in their order, until it ends, and writes for each device on which frames are
-/// sent the records of those. The numbers of the frames that were served are put behind `order`.
+/// Serves the frames of a merge in their order, until it ends, and writes for each device on which frames are sent the
+/// records of those. What is told of them is noted in `tally`.
 pub(crate) fn serve<F: Files>(
     alloc: Global,
     files: &mut F,
-    chain: &Chain,
+    context: &Context,
+    worker: &mut Worker,
     merge: &mut Merge,
     writers: &mut [Option<Writer>],
-    order: &mut Vec<u32>,
+    tally: &mut Tally,
 ) -> Fault
     requires begins { merge.old.given ≡ 0 }
-    requires known { length merge.old.sources ≤ chain.now.entries }
     requires apart { AreFilesApart writers.old }
-    requires none_served { order.old.items ≡ [] }
-    requires stateless { IsStateless chain.now }
-    ensures serving { (names : List (List ℕ)) (first : Held) → HasMerged names first (F.held files.old) [] merge.old
-        → IsServing chain.now names writers.old first (F.held files.new)
+    requires none_served { account_of tally.old ≡ record nothing_served { classes = tally.old.classes } }
+    requires begun { (chain : ChainState) × IsBegun chain context.now.rewriters context.now.classes context.now.index worker.old × (length merge.old.sources ≤ chain.entries) }
+    ensures serving { (chain : ChainState) → IsBegun chain context.now.rewriters context.now.classes context.now.index worker.old → length merge.old.sources ≤ chain.entries
+        → (names : List (List ℕ)) (first : Held) → HasMerged names first (F.held files.old) [] merge.old
+        → IsServing chain names writers.old first (F.held files.new)
         (F.written files.old) (F.written files.new)
         (F.read_faults files.old) (F.read_faults files.new)
         (F.write_faults files.old) (F.write_faults files.new)
-        order.new.items result }
+        (account_of tally.new) result }
+    ensures classes { tally.new.classes ≡ tally.old.classes }
 
     ensures other_held { IsSameBeside (names_of merge.old.sources) (F.held files.old) (F.held files.new) }
     ensures other_written { IsSameElsewhere writers.old (F.written files.old) (F.written files.new) }
     ensures read_faults { NeverFell (F.read_faults files.old) (F.read_faults files.new) }
     ensures write_faults { NeverFell (F.write_faults files.old) (F.write_faults files.new) }
 {
-    chain.is_accepted();
-    devices_have_entries();
     one_packet_behind_others();
     merges_all();
-    let mut tables = match Tables::new(alloc, chain) {
-        Ok(tables) => tables,
-        Err(_) => return Fault::Memory,
-    };
     while merge.given() < MOST_FRAMES {
         let frame = match merge.next(files) {
             Ok(Some(frame)) => frame,
             Ok(None) => return Fault::Done,
             Err(fault) => return merge_fault(fault),
         };
-        let number = frame.number;
-        match serve_one(
-            alloc,
-            files,
-            chain,
-            &mut tables,
-            writers,
-            Packet::new(frame),
-            number,
-            order,
-        ) {
+        match serve_one(alloc, files, context, worker, writers, frame, tally) {
             Ok(()) => {}
             Err(fault) => return fault,
         }
@@ -98,47 +85,48 @@ fn merge_fault(fault: MergeFault) -> Fault
     }
 }
 
-/// Runs one packet through the chain, puts its number behind `order`, and writes what it sends.
+/// Serves one frame, notes what is told of it, and writes what it sends.
 fn serve_one<F: Files>(
     alloc: Global,
     files: &mut F,
-    chain: &Chain,
-    tables: &mut Tables,
+    context: &Context,
+    worker: &mut Worker,
     writers: &mut [Option<Writer>],
-    packet: Packet,
-    number: u32,
-    order: &mut Vec<u32>,
+    frame: Stamped,
+    tally: &mut Tally,
 ) -> Result<(), Fault>
-    requires arrived { packet.layer ≡ layer.Frame }
-    requires known { IsThere (entry_of chain.now packet.device) }
-    requires stateless { IsStateless chain.now }
-    requires tables { AreTables chain.now tables.old }
-    requires seconds_fit { packet.stamp / 1000000000 < 2 ^ 32 }
-    requires length { length packet.bytes ≤ 262144 }
+    requires rest { (chain : ChainState) × IsAtRest chain context.now.rewriters context.now.classes context.now.index worker.old × (frame.device ≤ chain.entries) }
+    requires arrived { 0 < frame.device }
+    requires room { worker.old.writes < 2 ^ 62 }
+    requires same_count { worker.old.writes ≡ tally.old.writes }
+    requires seconds_fit { frame.stamp / 1000000000 < 2 ^ 32 }
+    requires length { length frame.frame ≤ 262144 }
     requires apart { AreFilesApart writers.old }
-    ensures ok { OnOk result (HasServedOne AllGain chain.now writers.old tables.old tables.new packet number
-        (F.written files.old) (F.written files.new) order.old.items order.new.items) }
-    ensures err { OnErr result (HasNotServedOne chain.now writers.old tables.old packet number
-        (F.written files.old) (F.written files.new) order.old.items order.new.items) }
+    ensures ok { OnOk result ((chain : ChainState) → IsAtRest chain context.now.rewriters context.now.classes context.now.index worker.old → frame.device ≤ chain.entries → HasServedOne AllGain chain writers.old (tables_at worker.old) (tables_at worker.new) frame
+        (F.written files.old) (F.written files.new) (account_of tally.old) (account_of tally.new)) }
+    ensures err { OnErr result ((chain : ChainState) → IsAtRest chain context.now.rewriters context.now.classes context.now.index worker.old → frame.device ≤ chain.entries → HasNotServedOne chain writers.old (tables_at worker.old) frame
+        (F.written files.old) (F.written files.new) (account_of tally.old) (account_of tally.new)) }
+    ensures rest { OnOk result ((chain : ChainState) → IsAtRest chain context.now.rewriters context.now.classes context.now.index worker.old → frame.device ≤ chain.entries → IsAtRest chain context.now.rewriters context.now.classes context.now.index worker.new) }
+    ensures same_count { OnOk result (worker.new.writes ≡ tally.new.writes) }
+    ensures few { worker.new.writes ≤ worker.old.writes + 24 }
+    ensures classes { tally.new.classes ≡ tally.old.classes }
     ensures cause { IfErr result (OutputFault writers.old (F.write_faults files.old) (F.write_faults files.new)) }
     ensures names { writers.new ≡ writers.old }
-    ensures tables { AreTables chain.now tables.new }
 
     ensures other_written { IsSameElsewhere writers.old (F.written files.old) (F.written files.new) }
     ensures held { IsSame (F.held files.old) (F.held files.new) }
     ensures read_faults { NeverFell (F.read_faults files.old) (F.read_faults files.new) }
     ensures write_faults { NeverFell (F.write_faults files.old) (F.write_faults files.new) }
 {
-    let ran = match run_one(alloc, chain, tables, packet, &[]) {
-        Ok(ran) => ran,
-        Err(RunFault::NoMemory) => return Err(Fault::Memory),
-        Err(RunFault::BadPick(_)) => unreachable!(),
-    };
-    match order.push(number) {
-        Ok(()) => {}
+    fates_come_from_packets();
+    let service = match worker.serve(alloc, context, frame) {
+        Ok(service) => service,
         Err(_) => return Err(Fault::Memory),
+    };
+    match tally.note(service.number(), service.picks(), worker.writes.count()) {
+        Ok(()) => write_fate(files, writers, service.fate()),
+        Err(_) => Err(Fault::Memory),
     }
-    write_fate(files, writers, &ran.fate)
 }
 
 /// Writes what a packet sends to the file of its device, if it has one.

@@ -5,9 +5,12 @@ mod frames;
 mod lines;
 mod refused;
 mod rewriters;
+mod rows;
 
 use crate::{Fault, Outcome, metron};
 use mt_io::MemoryFiles;
+use mt_ledger::{Pick, Policies, Policy};
+use mt_text::Text;
 use std::alloc::{AllocError, Global};
 use std::process::Abort;
 
@@ -70,7 +73,18 @@ fn run_words(alloc: Global, list: &[&str], files: &mut MemoryFiles) -> Result<Ou
     if words.len() > u32::MAX as usize {
         return Err(AllocError);
     }
-    Ok(metron(alloc, &words, files))
+    let low: Pick = Box::new(alloc, |_hint, _count| 0)?;
+    let high: Pick = Box::new(alloc, |_hint, count: u32| {
+        if count == 0 { 0 } else { count - 1 }
+    })?;
+    let spread: Pick = Box::new(alloc, |hint: u32, count: u32| {
+        if count == 0 { 0 } else { hint % count }
+    })?;
+    let low = Policy::new(Text::copy_of(alloc, b"low")?, low);
+    let high = Policy::new(Text::copy_of(alloc, b"high")?, high);
+    let spread = Policy::new(Text::copy_of(alloc, b"spread")?, spread);
+    let policies = Policies::new(vec![in alloc; low, high, spread]?);
+    Ok(metron(alloc, &words, files, policies))
 }
 
 fn run(alloc: Global, files: &mut MemoryFiles) -> Result<Outcome, AllocError> {

@@ -2,6 +2,8 @@
 use super::{HEADER, STRAIGHT, UDP, WORDS, check, files, head, joined, run, words};
 use crate::{Fault, FileId, Outcome, serve_command};
 use mt_io::{Call, MemoryFiles};
+use mt_ledger::{Pick, Policies, Policy};
+use mt_text::Text;
 use std::alloc::{AllocError, Global};
 use std::test::Fail;
 
@@ -43,7 +45,10 @@ fn run_buffered(alloc: Global, files: MemoryFiles) -> Result<(Outcome, MemoryFil
     if words.len() > u32::MAX as usize {
         return Err(AllocError);
     }
-    Ok(serve_command(alloc, &words, files))
+    let low: Pick = Box::new(alloc, |_hint, _count| 0)?;
+    let low = Policy::new(Text::copy_of(alloc, b"low")?, low);
+    let policies = Policies::new(vec![in alloc; low]?);
+    Ok(serve_command(alloc, &words, files, policies))
 }
 
 // Through buffers the header goes out at once and the record at the end.

@@ -89,7 +89,7 @@ fn chain(why: ChainWhy, element: u32, line: u32) -> Fault {
 
 #[test]
 fn a_refused_configuration_leaves_nothing_written(rt: HostRuntime) -> Result<(), Fail> {
-    let cases: [(&str, Fault); 16] = [
+    let cases: [(&str, Fault); 15] = [
         (
             "FromDevice(a) -> Foo -> ToDevice(b);",
             chain(ChainWhy::UnknownClass, 1, 1),
@@ -147,11 +147,6 @@ fn a_refused_configuration_leaves_nothing_written(rt: HostRuntime) -> Result<(),
                 line: 1,
                 column: 26,
             }),
-        ),
-        (
-            "FromDevice(a) -> Strip(14) -> CheckIPHeader -> IPRewriter(keep 0 0)
-                -> EtherEncap(0x0800, 02:00:00:00:00:0a, 02:00:00:00:00:0b) -> ToDevice(b);",
-            Fault::Unbuilt(FileId::Chain),
         ),
     ];
     for (chain, fault) in cases {

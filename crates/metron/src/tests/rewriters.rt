@@ -228,7 +228,7 @@ const SPECIFICATIONS: &str =
 2 020000000002020000000001080045000020000100004011148ec6336409cb007101003507d0000c123461626364 8 02000000000d02000000000c080045000020000100004011468bc63364090a00000500351388000c387961626364 0";
 
 // The bytes of hexadecimal text.
-fn bytes(alloc: Global, text: &str) -> Result<Vec<u8>, AllocError> {
+pub(super) fn bytes(alloc: Global, text: &str) -> Result<Vec<u8>, AllocError> {
     let mut bytes = Vec::new(alloc);
     for pair in text.as_bytes().chunks(2) {
         if let Some(byte) = hexadecimal_of_length(2, pair) {

@@ -11,7 +11,7 @@ use Rattle.metron.proofs.run.finish_run.Goals as goal
 
 -- all was written: the inner files have what the run told
 pub returns-in-Ok : goal.returns-in-Ok
-returns-in-Ok g c = λ words command old order is run are fell.
+returns-in-Ok g c = λ call command old account is run are fell.
     all_written _ run
     (λ name. ap (λ f. g.F.Files.written f name) c.into_inner.ensures.inner ∙ sym (c.in-Ok.ensures.ok name))
     (record {
@@ -21,7 +21,7 @@ returns-in-Ok g c = λ words command old order is run are fell.
 
 -- some bytes are pending: the writes of an output failed
 pub returns-in-Err : goal.returns-in-Err
-returns-in-Err g c = λ words command old order is run are fell.
+returns-in-Err g c = λ call command old account is run are fell.
     let new : State = state_of g.F.Files.held g.F.Files.written g.F.Files.read_faults g.F.Files.write_faults c.into_inner-in-Err.result in
     let outputs : Outputs = outputs_of (map bound_view c.deref.result.now) in
     some_pending command _ c.args.ended.now.fault is run
@@ -30,7 +30,7 @@ returns-in-Err g c = λ words command old order is run are fell.
       reads = fell_then_same _ _ _ c.finish.ensures.read_faults c.into_inner-in-Err.ensures.read_faults;
       writes = fell_then_same _ _ _ c.finish.ensures.write_faults c.into_inner-in-Err.ensures.write_faults;
     })
-    (finish_fault words old new command c.unwritten_fault-fault.result outputs _
-    (subst (λ (l : List Bound). AreOutputs words old.held command (outputs_of (map bound_view l))) (sym c.deref.ensures.value) are)
+    (finish_fault call old new command c.unwritten_fault-fault.result outputs _
+    (subst (λ (l : List Bound). AreOutputs call old.held command (outputs_of (map bound_view l))) (sym c.deref.ensures.value) are)
     (rose_since _ old.failed_writes _ _ new.failed_writes fell c.into_inner-in-Err.ensures.write_faults c.in-Err.ensures.err)
     (subst (λ (o : Told). UnwrittenCause outputs o c.unwritten_fault-fault.result) c.unwritten.ensures c.unwritten_fault-fault.ensures))
